@@ -1,0 +1,11 @@
+pub mod Ratio
+pub mod Fraction
+pub mod Law
+pub mod Formulas
+pub mod Kind
+pub mod Refusals
+pub mod Book
+pub mod Grade
+pub mod Window
+pub mod Stop
+pub mod Questions

@@ -1,0 +1,8 @@
+// The rules of train reckoning: what the laws, the book and the questions mean stands in specs/, and the figures and
+// refusals that every crate above shares stand here.
+pub mod figures;
+pub mod refusal;
+
+pub use figures::SectionFigures;
+pub use figures::VehicleFigures;
+pub use refusal::Refusal;
