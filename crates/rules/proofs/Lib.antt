@@ -1,0 +1,4 @@
+pub mod Ratios
+pub mod Readings
+pub mod Floors
+pub mod Grades

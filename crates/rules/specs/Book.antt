@@ -3,8 +3,9 @@
 use Prim.Native.Nat.{ℕ, zero, suc, _+_, _-_, _*_, _/_, _%_, min}
 use mathlib.Core.Bool.{Bool, true, false, not, cond}
 use mathlib.Core.List.{List, [], _∷_, _++_}
+use mathlib.Core.Path.{_≡_}
 use lib.Dec.{eqb}
-use lib.ListN.{length, take}
+use lib.ListN.{length, take, getD}
 use Rattle.std.specs.declared.option.Option.{Option}
 use Rattle.std.specs.declared.option.Option.the-variants.{Some, None}
 use Rattle.rules.specs.declared.figures.VehicleFigures.{VehicleFigures}
@@ -29,17 +30,24 @@ new-book = book [] [] 1000
 
 -- ---- what the calls do
 
-abbrev pub coupled : Book → VehicleFigures → Book
-coupled b f = book (b .vehicles ++ record { figures = f; braked = true } ∷ []) (b .sections) (b .distance)
+-- the train with a vehicle coupled at the rear, its brake in
+abbrev pub with-rear : List Vehicle → VehicleFigures → List Vehicle
+with-rear vs f = vs ++ record { figures = f; braked = true } ∷ []
 
-abbrev pub uncoupled : Book → Book
-uncoupled b = book (take (length (b .vehicles) - 1) (b .vehicles)) (b .sections) (b .distance)
+abbrev pub without-rear : List Vehicle → List Vehicle
+without-rear vs = take (length vs - 1) vs
 
 -- the train with the brake of vehicle k in or out, and every other vehicle as it was
 abbrev pub with-brake : Bool → List Vehicle → ℕ → List Vehicle
 with-brake on [] k = []
 with-brake on (v ∷ vs) zero = record { figures = v .figures; braked = on } ∷ vs
 with-brake on (v ∷ vs) (suc k) = v ∷ with-brake on vs k
+
+abbrev pub coupled : Book → VehicleFigures → Book
+coupled b f = book (with-rear (b .vehicles) f) (b .sections) (b .distance)
+
+abbrev pub uncoupled : Book → Book
+uncoupled b = book (without-rear (b .vehicles)) (b .sections) (b .distance)
 
 abbrev pub cut-out : Book → ℕ → Book
 cut-out b k = book (with-brake false (b .vehicles) k) (b .sections) (b .distance)
@@ -96,3 +104,8 @@ mass-per-wagon vs = cond (eqb (wagons vs) 0) 50 (rounded-up (ratio (trailing-mas
 
 abbrev pub line-length : List SectionFigures → ℕ
 line-length = sum-of (λ s. s .metres)
+
+-- of two trains: the same but for the brake of vehicle k, so that no vehicle came or went and no other one was changed
+pub record OnlyBrakeOf (k : ℕ) (old new : List Vehicle) : Type 0 where
+  pub count : length new ≡ length old
+  pub others : (j : ℕ) (d : Vehicle) → (j ≡ k → ⊥) → getD new j d ≡ getD old j d

@@ -20,7 +20,7 @@ low-grade f = floor (grade f)
 
 -- rounded up, and 0 if negative
 abbrev pub high-grade : SectionFigures → ℤ
-high-grade f = maxZ (pos 0) (ceiling (grade f))
+high-grade f = maxZ (ceiling (grade f)) (pos 0)
 
 -- the least of a list that is not empty
 abbrev pub lowest : {X : Type 0} → (X → X → X) → X → List X → X

@@ -11,20 +11,20 @@ use Rattle.rules.specs.declared.figures.SectionFigures.{SectionFigures}
 use Rattle.rules.specs.Refusals.{Question, _otherwise_, Reply, decide, first-no, stops}
 use Rattle.rules.specs.Law.{Stock}
 use Rattle.rules.specs.Kind.{Kind}
-use Rattle.rules.specs.Book.{Book, locomotives, line-length}
-use Rattle.rules.specs.Stop.{Approach, approach-at, brake-force, all-hold, steps-from, distance, least-force}
+use Rattle.rules.specs.Book.{Book, Vehicle, locomotives, line-length}
+use Rattle.rules.specs.Stop.{Approach, approach-at, brake-force, holding-force, all-hold, steps-from, distance, least-force}
 
 -- letter L or W, mass 50 to 2,000, pressure up to the mass
 abbrev pub lawful-vehicle : VehicleFigures → Bool
 lawful-vehicle f =
     (eqb (f .letter) 76 || eqb (f .letter) 87) && (leb 50 (f .mass) && (leb (f .mass) 2000 && leb (f .pressure) (f .mass)))
 
-abbrev pub coupling : Book → VehicleFigures → List Question
-coupling b f = (lawful-vehicle f otherwise 1) ∷ (ltb (length (b .vehicles)) 120 otherwise 2) ∷ []
+abbrev pub coupling : List Vehicle → VehicleFigures → List Question
+coupling vs f = (lawful-vehicle f otherwise 1) ∷ (ltb (length vs) 120 otherwise 2) ∷ []
 
 -- uncoupling asks for vehicle 0, cutting out and restoring for the vehicle named
-abbrev pub vehicle-there : Book → ℕ → List Question
-vehicle-there b k = (ltb k (length (b .vehicles)) otherwise 3) ∷ []
+abbrev pub vehicle-there : List Vehicle → ℕ → List Question
+vehicle-there vs k = (ltb k (length vs) otherwise 3) ∷ []
 
 -- radius 100 to 20,000 with a curve, and 0 without
 abbrev pub lawful-curve : ℕ → ℕ → Bool
@@ -37,8 +37,8 @@ lawful-section f =
     && ((leZ (negsuc 399) (f .gradient) && leZ (f .gradient) (pos 400))
     && (leb (f .curve) (f .metres) && (lawful-curve (f .curve) (f .radius) && leb (f .stop) 1)))
 
-abbrev pub appending : Book → SectionFigures → List Question
-appending b f = (lawful-section f otherwise 4) ∷ (ltb (length (b .sections)) 200 otherwise 5) ∷ []
+abbrev pub appending : List SectionFigures → SectionFigures → List Question
+appending ss f = (lawful-section f otherwise 4) ∷ (ltb (length ss) 200 otherwise 5) ∷ []
 
 abbrev pub setting-distance : ℕ → List Question
 setting-distance l = ((leb 400 l && leb l 4000) otherwise 6) ∷ []
@@ -64,7 +64,7 @@ approaching speed-in-range b place factor more =
 abbrev pub stopping : Kind → Approach → ℕ → List Question
 stopping k a v =
     (leb 1000 (brake-force a v) otherwise 10)
-    ∷ (all-hold a (steps-from v) otherwise 11)
+    ∷ (all-hold (holding-force a) (steps-from v) otherwise 11)
     ∷ (leb (distance k a v) (1000 * a .reach) otherwise 12)
     ∷ []
 

@@ -72,7 +72,7 @@ steps-from v = steps-through v (edges-below v)
 -- ---- forces
 
 -- B, the brake force at the speed y
-abbrev pub brake-force : Approach → ℕ → ℕ
+unfoldable pub brake-force : Approach → ℕ → ℕ
 brake-force a y = rounded-down (ratio (a .factor * a .pressure * a .laws .friction .below y) (10 * train-mass a))
 
 -- a drag in a step is read at the lower speed
@@ -80,27 +80,18 @@ abbrev pub drag-in : Drag → Step → ℕ → ℕ
 drag-in d s q = d .below (s .bottom) q
 
 -- D, the drag of the coasting locomotives and the wagons
-abbrev pub train-drag : Approach → Step → ℕ
+unfoldable pub train-drag : Approach → Step → ℕ
 train-drag a s =
     rounded-down (ratio (a .hauling * drag-in (a .laws .coasting) s (a .per-wagon) + a .trailing * drag-in (a .laws .wagon) s (a .per-wagon)) (train-mass a))
 
 -- N = B + D + G, the force that holds the train back in a step
-abbrev pub holding-force : Approach → Step → ℤ
+unfoldable pub holding-force : Approach → Step → ℤ
 holding-force a s = pos (brake-force a (s .top)) +ℤ pos (train-drag a s) +ℤ a .lowest
 
--- ---- distances
-
--- 41,700 (y² − z²) / N, rounded up
-abbrev pub step-distance : Approach → Step → ℕ
-step-distance a s = rounded-up (ratio (41700 * (s .top * s .top - s .bottom * s .bottom)) (up (holding-force a s)))
-
--- before the brakes hold: v (1,000 T B + 1,000 c d) / (36 B), rounded up, with B at v, and d = −G on a fall, else 0
-abbrev pub delay : Kind → Approach → ℕ → ℕ
-delay k a v =
-    rounded-up (ratio (v * (1000 * k .seconds * brake-force a v + 1000 * k .slope * down (a .lowest))) (36 * brake-force a v))
-
-abbrev pub distance : Kind → Approach → ℕ → ℕ
-distance k a v = delay k a v + sum-of (step-distance a) (steps-from v)
+-- every N is at least 1,000
+abbrev pub all-hold : (Step → ℤ) → List Step → Bool
+all-hold force [] = true
+all-hold force (s ∷ ss) = leZ (pos 1000) (force s) && all-hold force ss
 
 -- the smallest of b and the numbers of a list
 abbrev pub least-of : ℕ → List ℕ → ℕ
@@ -111,7 +102,21 @@ least-of b (n ∷ ns) = min n (least-of b ns)
 abbrev pub least-force : Approach → ℕ → ℕ
 least-force a v = least-of (brake-force a v) (map (λ s. up (holding-force a s)) (steps-from v))
 
--- every N is at least 1,000
-abbrev pub all-hold : Approach → List Step → Bool
-all-hold a [] = true
-all-hold a (s ∷ ss) = leZ (pos 1000) (holding-force a s) && all-hold a ss
+-- ---- distances
+
+-- a step under the force n: 41,700 (y² − z²) / n, rounded up
+unfoldable pub braking-run : Step → ℕ → ℕ
+braking-run s n = rounded-up (ratio (41700 * (s .top * s .top - s .bottom * s .bottom)) n)
+
+-- all steps
+abbrev pub braking-distance : (Step → ℤ) → List Step → ℕ
+braking-distance force = sum-of (λ s. braking-run s (up (force s)))
+
+-- before the brakes hold, at the speed v under the brake force b on the grade g: v (1,000 T b + 1,000 c d) / (36 b),
+-- rounded up, where d is −g on a fall, else 0
+unfoldable pub delay-run : Kind → ℕ → ℕ → ℤ → ℕ
+delay-run k v b g = rounded-up (ratio (v * (1000 * k .seconds * b + 1000 * k .slope * down g)) (36 * b))
+
+-- the delay and all steps
+abbrev pub distance : Kind → Approach → ℕ → ℕ
+distance k a v = delay-run k v (brake-force a v) (a .lowest) + braking-distance (holding-force a) (steps-from v)

@@ -1,0 +1,4 @@
+mod Tables
+mod Trains
+mod Lawful
+mod Windows
