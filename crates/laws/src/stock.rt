@@ -39,11 +39,14 @@ where
     P: DragLaw,
     C: DragLaw,
 {
-    ghost pull = { λ e. falling (L·FallingLaw .exact (e .pull)) (L·FallingLaw .low (e .pull)) (L·FallingLaw .high (e .pull)) (L·FallingLaw .slack (e .pull)) };
+    ghost pull = { λ e.
+        falling (L·FallingLaw .exact (e .pull)) (L·FallingLaw .low (e .pull)) (L·FallingLaw .high (e .pull)) (L·FallingLaw .slack (e .pull)) };
 
-    ghost pulling = { λ e. drag (P·DragLaw .exact (e .pulling)) (P·DragLaw .low (e .pulling)) (P·DragLaw .high (e .pulling)) (P·DragLaw .slack (e .pulling)) };
+    ghost pulling = { λ e.
+        drag (P·DragLaw .exact (e .pulling)) (P·DragLaw .low (e .pulling)) (P·DragLaw .high (e .pulling)) (P·DragLaw .slack (e .pulling)) };
 
-    ghost coasting = { λ e. drag (C·DragLaw .exact (e .coasting)) (C·DragLaw .low (e .coasting)) (C·DragLaw .high (e .coasting)) (C·DragLaw .slack (e .coasting)) };
+    ghost coasting = { λ e.
+        drag (C·DragLaw .exact (e .coasting)) (C·DragLaw .low (e .coasting)) (C·DragLaw .high (e .coasting)) (C·DragLaw .slack (e .coasting)) };
 
     fn coasting_below(&self, v: Speed, q: Gross) -> Milli {
         self.coasting.below(v, q)
@@ -83,7 +86,12 @@ where
     E: LocomotiveLaws,
     W: DragLaw,
 {
-    ghost meaning = { λ s. stock (falling (F·FallingLaw .exact (s .friction)) (F·FallingLaw .low (s .friction)) (F·FallingLaw .high (s .friction)) (F·FallingLaw .slack (s .friction))) (E·LocomotiveLaws .pull (s .locomotive)) (E·LocomotiveLaws .pulling (s .locomotive)) (E·LocomotiveLaws .coasting (s .locomotive)) (drag (W·DragLaw .exact (s .wagon)) (W·DragLaw .low (s .wagon)) (W·DragLaw .high (s .wagon)) (W·DragLaw .slack (s .wagon))) };
+    ghost meaning = { λ s. stock
+        (falling (F·FallingLaw .exact (s .friction)) (F·FallingLaw .low (s .friction)) (F·FallingLaw .high (s .friction)) (F·FallingLaw .slack (s .friction)))
+        (E·LocomotiveLaws .pull (s .locomotive))
+        (E·LocomotiveLaws .pulling (s .locomotive))
+        (E·LocomotiveLaws .coasting (s .locomotive))
+        (drag (W·DragLaw .exact (s .wagon)) (W·DragLaw .low (s .wagon)) (W·DragLaw .high (s .wagon)) (W·DragLaw .slack (s .wagon))) };
 
     fn friction_below(&self, v: Speed) -> Friction {
         self.friction.below(v)

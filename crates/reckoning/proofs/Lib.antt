@@ -1,0 +1,3 @@
+mod Asking
+mod Bounds
+mod Brakings

@@ -3,6 +3,9 @@ use units::Grade;
 use units::Gross;
 
 pub mod forces;
+pub mod place;
+pub mod steps;
+pub mod stop;
 
 /// What a stop reads of the sheet besides its speed: the factor in tenths of full braking, the masses of locomotives and
 /// wagons and the pressure of the brakes in tenths of a tonne, the gross mass per wagon, the braking distance in metres,

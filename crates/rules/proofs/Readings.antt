@@ -7,7 +7,8 @@ use Rattle.rules.specs.Law.{Reads}
 use Rattle.rules.proofs.Ratios.{down-under, up-over, up-least, up-close}
 
 -- the order of the two values follows from the exact one between them
-pub reading : (x : Ratio) (lo hi s : ℕ) → 1 ≤ x .den → lo * x .den ≤ x .num → x .num ≤ hi * x .den → hi ≤ 1000000 → hi ≤ lo + s → Reads x lo hi s
+pub reading : (x : Ratio) (lo hi s : ℕ) → 1 ≤ x .den → lo * x .den ≤ x .num → x .num ≤ hi * x .den → hi ≤ 1000000
+    → hi ≤ lo + s → Reads x lo hi s
 reading x lo hi s proper under over capped close =
     record {
       proper = proper;

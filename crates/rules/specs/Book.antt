@@ -98,9 +98,13 @@ trailing-mass = sum-of (λ v. cond (is-locomotive v) 0 (v .figures .mass))
 abbrev pub brake-pressure : List Vehicle → ℕ
 brake-pressure = sum-of (λ v. cond (v .braked) (v .figures .pressure) 0)
 
--- q of a stop: the mass of the wagons over their number, rounded up, and 50 without wagons
+-- a mass over a number of wagons, rounded up, and 50 without wagons
+abbrev pub per-wagon : ℕ → ℕ → ℕ
+per-wagon mass n = cond (eqb n 0) 50 (rounded-up (ratio mass n))
+
+-- q of a stop
 abbrev pub mass-per-wagon : List Vehicle → ℕ
-mass-per-wagon vs = cond (eqb (wagons vs) 0) 50 (rounded-up (ratio (trailing-mass vs) (wagons vs)))
+mass-per-wagon vs = per-wagon (trailing-mass vs) (wagons vs)
 
 abbrev pub line-length : List SectionFigures → ℕ
 line-length = sum-of (λ s. s .metres)

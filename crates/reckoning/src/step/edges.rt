@@ -1,11 +1,33 @@
 ghost use Prim.Native.Nat.{_≤_, _<_};
 ghost use Rattle.reckoning.specs.Steps.{step-of};
-ghost use Rattle.rules.specs.Stop.{edge, edges-below, braking-run};
+ghost use Rattle.rules.specs.Stop.{step, edge, edges-below, braking-run};
 ghost use mathlib.Core.Path.{_≡_};
 use super::Step;
 use units::Speed;
 
 impl Step {
+    // From a speed down to one that is not higher.
+    pub(crate) fn new(top: Speed, bottom: Speed) -> Step
+        requires { ⌜ bottom .tenths ≤ top .tenths ⌝ }
+        ensures { λ r. ⌜ step-of r ≡ step (top .tenths) (bottom .tenths) ⌝ }
+    {
+        Step { top, bottom }
+    }
+
+    /// The speed at which the step begins.
+    pub fn top(self) -> Speed
+        ensures { λ r. ⌜ r .tenths ≡ step-of self .top ⌝ }
+    {
+        self.top
+    }
+
+    /// The speed at which the step ends.
+    pub fn bottom(self) -> Speed
+        ensures { λ r. ⌜ r .tenths ≡ step-of self .bottom ⌝ }
+    {
+        self.bottom
+    }
+
     // The distance in millimetres of the step under a force in milli.
     pub(crate) fn run(self, force: u64) -> u64
         requires { ⌜ 1 ≤ force ⌝ }

@@ -5,7 +5,8 @@ use Rattle.laws.proofs.Formulas.{quadratic-cap}
 use Rattle.laws.proofs.drags.QuadraticDrag.scaled.Needs as need
 
 -- the whole sum is far below 2 ^ 64
-small : (c : need.After-from-c) → quadratic-drag (c .from-a .result) (c .from-b .result) (c .from-c .result) (c .from-v .result) 0 .num ≤ 100000000000
+small : (c : need.After-from-c)
+    → quadratic-drag (c .from-a .result) (c .from-b .result) (c .from-c .result) (c .from-v .result) 0 .num ≤ 100000000000
 small c =
     quadratic-cap (c .from-a .result) (c .from-b .result) (c .from-c .result) (c .from-v .result) 0
     (omega arith, omega arith, omega arith) (omega arith)

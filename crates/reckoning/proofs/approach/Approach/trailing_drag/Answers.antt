@@ -1,0 +1,10 @@
+use borrow.Author.Needs.{needs}
+use native.Mathlib.Omega.{arith}
+use Rattle.reckoning.proofs.approach.Approach.trailing_drag.Needs as need
+
+pub weighed-requires : need.weighed-requires
+weighed-requires g c κs =
+    let s = g .S·StockLaws·met .lawful (c .args .stock .now) in
+    let q = c .args .self .now .gross in
+    let r = s .wagon .reads (c .bottom .result .tenths) (q .tenths) (c .bottom .result .lawful) (q .lawful .0) (q .lawful .1) in
+    (omega (arith, c .args .self .now .light), omega (arith, c .wagon-below .ensures, r .order, r .capped))

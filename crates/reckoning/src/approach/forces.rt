@@ -1,0 +1,88 @@
+ghost use Prim.Native.Nat.{_*_, _^_, _≤_};
+ghost use Rattle.reckoning.specs.Approaches.{approach-of};
+ghost use Rattle.reckoning.specs.Steps.{step-of};
+ghost use Rattle.rules.specs.Kind.{kind};
+ghost use Rattle.rules.specs.Stop.{brake-force, drag-in, train-drag, holding-force, delay-run};
+ghost use mathlib.Core.Path.{_≡_};
+use super::Approach;
+use crate::step::Step;
+use laws::BrakeKind;
+use laws::StockLaws;
+use units::BrakeRatio;
+use units::Milli;
+use units::Speed;
+
+impl Approach {
+    // The brake force at a speed.
+    pub(crate) fn brake_force<S: StockLaws>(&self, stock: &S, v: Speed) -> Milli
+        ensures { λ r. ⌜ r .0 ≡ brake-force (approach-of (now (self .entry)) (S·StockLaws .meaning (now (stock .entry)))) (v .tenths) ⌝ }
+    {
+        let Some(ratio) = BrakeRatio::new(
+            self.factor * self.pressure,
+            10 * (self.hauling + self.trailing),
+        ) else {
+            unreachable()
+        };
+        stock.friction_below(v).braking(ratio)
+    }
+
+    // The drag of the train in a step.
+    pub(crate) fn drag<S: StockLaws>(&self, stock: &S, step: Step) -> Milli
+        ensures { λ r. ⌜ r .0 ≡ train-drag (approach-of (now (self .entry)) (S·StockLaws .meaning (now (stock .entry)))) (step-of step) ⌝ }
+    {
+        let held = self.hauling_drag(stock, step) + self.trailing_drag(stock, step);
+        let mass = u64::from(self.hauling + self.trailing);
+        Milli::from_milli((held / mass) as u32)
+    }
+
+    // The drag of the coasting locomotives, times their mass.
+    fn hauling_drag<S: StockLaws>(&self, stock: &S, step: Step) -> u64
+        ensures value { λ r. ⌜ r ≡ now (self .entry) .hauling * drag-in (S·StockLaws .meaning (now (stock .entry)) .coasting) (step-of step) (now (self .entry) .gross .tenths) ⌝ }
+        ensures small { λ r. ⌜ r ≤ 1000000 * now (self .entry) .hauling ⌝ }
+    {
+        weighed(
+            self.hauling,
+            stock.coasting_below(step.bottom(), self.gross),
+        )
+    }
+
+    // The drag of the wagons, times their mass; without wagons their law is not read.
+    fn trailing_drag<S: StockLaws>(&self, stock: &S, step: Step) -> u64
+        ensures value { λ r. ⌜ r ≡ now (self .entry) .trailing * drag-in (S·StockLaws .meaning (now (stock .entry)) .wagon) (step-of step) (now (self .entry) .gross .tenths) ⌝ }
+        ensures small { λ r. ⌜ r ≤ 1000000 * now (self .entry) .trailing ⌝ }
+    {
+        if self.trailing == 0 {
+            return 0;
+        }
+        weighed(self.trailing, stock.wagon_below(step.bottom(), self.gross))
+    }
+
+    // The force that holds the train back in a step.
+    pub(crate) fn holding<S: StockLaws>(&self, stock: &S, step: Step) -> i64
+        ensures { λ r. ⌜ r ≡ holding-force (approach-of (now (self .entry)) (S·StockLaws .meaning (now (stock .entry)))) (step-of step) ⌝ }
+    {
+        self.lowest.holding(self.brake_force(stock, step.top()), self.drag(stock, step))
+    }
+
+    // The distance in millimetres that the train runs before the brakes hold.
+    pub(crate) fn delay<K: BrakeKind>(&self, v: Speed, brake: Milli) -> u64
+        requires { ⌜ 1 ≤ brake .0 ⌝ }
+        ensures value { λ r. ⌜ r ≡ delay-run (kind (K·BrakeKind .seconds) (K·BrakeKind .slope)) (v .tenths) (brake .0) (now (self .entry) .lowest .0) ⌝ }
+        ensures small { λ r. ⌜ r ≤ 1600 * (180000 * 2 ^ 32) ⌝ }
+    {
+        let (seconds, slope) = K::constants();
+        let brake = u64::from(brake.milli());
+        let fall = u64::from(self.lowest.fall());
+        let parts = 1000 * u64::from(seconds) * brake + 1000 * u64::from(slope) * fall;
+        (u64::from(v.tenths()) * parts).div_ceil(36 * brake)
+    }
+}
+
+// A specific force times the mass that it acts on.
+fn weighed(mass: u32, force: Milli) -> u64
+    requires { ⌜ mass ≤ 240000 ⌝ ∗ ⌜ force .0 ≤ 1000000 ⌝ }
+    ensures value { λ r. ⌜ r ≡ mass * force .0 ⌝ }
+    ensures small { λ r. ⌜ r ≤ 1000000 * mass ⌝ }
+{
+    u64::from(mass) * u64::from(force.milli())
+}
