@@ -6,3 +6,4 @@ pub mod refusal;
 pub use figures::SectionFigures;
 pub use figures::VehicleFigures;
 pub use refusal::Refusal;
+pub use refusal::RefusalDisplay;
