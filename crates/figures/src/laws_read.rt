@@ -1,4 +1,3 @@
-use crate::tell;
 use laws::CastIron;
 use laws::CastIronLaw;
 use laws::DragLaw;
@@ -9,12 +8,15 @@ use laws::QuadraticLaw;
 use laws::WagonDrag;
 use laws::WagonLaw;
 use laws::constants_of;
+use report::Outcome;
+use report::OutcomeDisplay;
+use rules::Refusal;
 use std::io;
 use units::Gross;
 use units::Speed;
 
-/// The three laws, below and above.
-pub fn readings(rt: &LibcRuntime) -> io::Result<()> {
+/// Cast iron friction, below and above.
+pub fn friction(rt: &LibcRuntime) -> io::Result<()> {
     println!(rt, "laws, below and above")?;
     for tenths in [0, 500, 1600] {
         let v = Speed::capped(tenths);
@@ -22,58 +24,64 @@ pub fn readings(rt: &LibcRuntime) -> io::Result<()> {
         let above = CastIron.above(v).millionths();
         println!(rt, "cast iron at {tenths}: {below} {above}")?;
     }
-    wagon_drag(rt, 500, 600)?;
-    wagon_drag(rt, 0, 50)?;
-    wagon_drag(rt, 1600, 2000)?;
-    df4(rt, 0)?;
-    df4(rt, 123)?;
-    df4(rt, 500)
+    Ok(())
 }
 
-fn wagon_drag(rt: &LibcRuntime, tenths: u32, mass: u32) -> io::Result<()> {
-    let Some(q) = Gross::from_tenths(mass) else {
-        return Ok(());
-    };
-    let v = Speed::capped(tenths);
-    let below = WagonDrag.below(v, q).milli();
-    let above = WagonDrag.above(v, q).milli();
-    println!(rt, "wagon drag at {tenths}, {mass}: {below} {above}")
+/// Wagon drag and the drag of the DF4, below and above.
+pub fn drags(rt: &LibcRuntime) -> io::Result<()> {
+    for (tenths, mass) in [(500, 600), (0, 50), (1600, 2000)] {
+        let Some(q) = Gross::from_tenths(mass) else {
+            continue;
+        };
+        let (below, above) = both(&WagonDrag, Speed::capped(tenths), q);
+        println!(rt, "wagon drag at {tenths}, {mass}: {below} {above}")?;
+    }
+    for tenths in [0, 123, 500] {
+        let Some(q) = Gross::from_tenths(600) else {
+            continue;
+        };
+        let (below, above) = both(&QuadraticDrag::df4(), Speed::capped(tenths), q);
+        println!(rt, "DF4 at {tenths}: {below} {above}")?;
+    }
+    Ok(())
 }
 
-fn df4(rt: &LibcRuntime, tenths: u32) -> io::Result<()> {
-    let Some(q) = Gross::from_tenths(600) else {
-        return Ok(());
-    };
-    let v = Speed::capped(tenths);
-    let below = QuadraticDrag::df4().below(v, q).milli();
-    let above = QuadraticDrag::df4().above(v, q).milli();
-    println!(rt, "DF4 at {tenths}: {below} {above}")
+// Both values of a drag, in milli.
+fn both<D: DragLaw>(drag: &D, v: Speed, q: Gross) -> (u32, u32) {
+    (drag.below(v, q).milli(), drag.above(v, q).milli())
 }
 
 /// Quadratic drags inside and outside their ranges.
 pub fn makers(rt: &LibcRuntime) -> io::Result<()> {
-    quadratic(rt, 100_000_000, 1_000_000, 10_000)?;
-    quadratic(rt, 100_000_001, 0, 0)?;
-    quadratic(rt, 0, 1_000_001, 0)?;
-    quadratic(rt, 0, 0, 10_001)
+    for (a, b, c) in [
+        (100_000_000, 1_000_000, 10_000),
+        (100_000_001, 0, 0),
+        (0, 1_000_001, 0),
+        (0, 0, 10_001),
+    ] {
+        let outcome = Outcome(made(a, b, c));
+        println!(rt, "quadratic drag {a} {b} {c}: {outcome}")?;
+    }
+    Ok(())
 }
 
-fn quadratic(rt: &LibcRuntime, a: u32, b: u32, c: u32) -> io::Result<()> {
-    print!(rt, "quadratic drag {a} {b} {c}: ")?;
-    tell::outcome(rt, QuadraticDrag::new(a, b, c))
+fn made(a: u32, b: u32, c: u32) -> Result<(), Refusal> {
+    let _drag = QuadraticDrag::new(a, b, c)?;
+    Ok(())
 }
 
 /// The constants of the five kinds of brake.
 pub fn kinds(rt: &LibcRuntime) -> io::Result<()> {
     println!(rt, "kinds of brake, T and c")?;
-    kind(rt, 'F', KindLetter::F)?;
-    kind(rt, 'P', KindLetter::P)?;
-    kind(rt, 'E', KindLetter::E)?;
-    kind(rt, 'H', KindLetter::H)?;
-    kind(rt, 'J', KindLetter::J)
-}
-
-fn kind(rt: &LibcRuntime, letter: char, kind: KindLetter) -> io::Result<()> {
-    let (t, c) = constants_of(kind);
-    println!(rt, "{letter}: {t} {c}")
+    for (letter, kind) in [
+        ('F', KindLetter::F),
+        ('P', KindLetter::P),
+        ('E', KindLetter::E),
+        ('H', KindLetter::H),
+        ('J', KindLetter::J),
+    ] {
+        let (t, c) = constants_of(kind);
+        println!(rt, "{letter}: {t} {c}")?;
+    }
+    Ok(())
 }

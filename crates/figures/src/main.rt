@@ -1,4 +1,4 @@
-// Checked figures: every refusal with its number, the laws, the grades and the stops at the ends of their ranges.
+// Checked figures: every refusal with its number, and the laws, the grades and the stops at the ends of their ranges.
 mod laws_read;
 mod lines;
 mod stops;
@@ -14,12 +14,19 @@ fn main(rt: LibcRuntime) -> io::Result<()> {
     lines::long_line(&rt)?;
     lines::grades(&rt)?;
     lines::braking_distances(&rt)?;
-    laws_read::readings(&rt)?;
+    laws_read::friction(&rt)?;
+    laws_read::drags(&rt)?;
     laws_read::makers(&rt)?;
     laws_read::kinds(&rt)?;
-    stops::out_of_range(&rt)?;
-    stops::example_train(&rt)?;
-    stops::by_kind(&rt)?;
-    stops::window_end(&rt)?;
-    stops::long_stops(&rt)
+    ask(&rt)
+}
+
+fn ask(rt: &LibcRuntime) -> io::Result<()> {
+    stops::out_of_range(rt)?;
+    stops::example_train(rt)?;
+    stops::weak_brakes(rt)?;
+    stops::by_kind(rt)?;
+    stops::window_end(rt)?;
+    stops::long_stops(rt)?;
+    stops::alone(rt)
 }

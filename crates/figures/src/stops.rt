@@ -1,14 +1,24 @@
-use crate::tell;
+use crate::tell::tell_stop;
+use laws::CastIronLaw;
 use laws::ElectroPneumatic;
 use laws::ElectroPneumaticKind;
 use laws::Freight;
 use laws::FreightByHand;
 use laws::FreightByHandKind;
 use laws::FreightKind;
+use laws::LocomotiveOfLaws;
+use laws::NoPullLaw;
 use laws::Passenger;
 use laws::PassengerByHand;
 use laws::PassengerByHandKind;
 use laws::PassengerKind;
+use laws::QuadraticLaw;
+use laws::StockOfLaws;
+use laws::WagonLaw;
+use reckoning::stop;
+use report::StopAnswer;
+use report::StopAnswerDisplay;
+use report::diesel_freight;
 use rules::SectionFigures;
 use rules::VehicleFigures;
 use sheet::Sheet;
@@ -47,55 +57,62 @@ pub fn out_of_range(rt: &LibcRuntime) -> io::Result<()> {
         (0, 100, 0),
         (0, 100, 11),
     ] {
-        print!(rt, "stop {place} {speed} {factor}: ")?;
-        tell::stop::<Freight>(rt, &sheet, place, speed, factor)?;
+        let answer = StopAnswer(stop::<FreightKind, StockOfLaws>(
+            &sheet,
+            &diesel_freight(),
+            place,
+            speed,
+            factor,
+        ));
+        println!(rt, "stop {place} {speed} {factor}: {answer}")?;
     }
     Ok(())
 }
 
-/// The example train on falls, on a climb, at rest, with its brakes cut out, and too fast.
+/// The example train on a fall, on the level, on a climb and at rest.
 pub fn example_train(rt: &LibcRuntime) -> io::Result<()> {
     println!(rt, "stops of the example train")?;
     for (gradient, speed) in [(-100, 100), (0, 100), (100, 100), (0, 0)] {
         let sheet = example(rt, gradient)?;
-        print!(rt, "gradient {gradient}, speed {speed}: ")?;
-        tell::stop::<Freight>(rt, &sheet, 0, speed, 10)?;
+        let answer = StopAnswer(stop::<FreightKind, StockOfLaws>(
+            &sheet,
+            &diesel_freight(),
+            0,
+            speed,
+            10,
+        ));
+        println!(rt, "gradient {gradient}, speed {speed}: {answer}")?;
     }
+    Ok(())
+}
+
+/// The example train with its brakes cut out on a steep fall, and too fast.
+pub fn weak_brakes(rt: &LibcRuntime) -> io::Result<()> {
     let mut steep = example(rt, -400)?;
     let _ = steep.cut_out(0);
-    print!(rt, "gradient -400, locomotive cut out: ")?;
-    tell::stop::<Freight>(rt, &steep, 0, 100, 10)?;
+    tell_stop::<Freight>(rt, "gradient -400, locomotive cut out", &steep, 0, 100, 10)?;
     let _ = steep.cut_out(1);
-    print!(rt, "gradient -400, both cut out: ")?;
-    tell::stop::<Freight>(rt, &steep, 0, 100, 10)?;
+    tell_stop::<Freight>(rt, "gradient -400, both cut out", &steep, 0, 100, 10)?;
     let level = example(rt, 0)?;
-    print!(rt, "speed 1600: ")?;
-    tell::stop::<Freight>(rt, &level, 0, 1600, 10)
+    tell_stop::<Freight>(rt, "speed 1600", &level, 0, 1600, 10)
 }
 
 /// One stop by each kind of brake.
 pub fn by_kind(rt: &LibcRuntime) -> io::Result<()> {
     let sheet = example(rt, -20)?;
-    print!(rt, "kind F, gradient -20, speed 350: ")?;
-    tell::stop::<Freight>(rt, &sheet, 0, 350, 10)?;
-    print!(rt, "kind P, gradient -20, speed 350: ")?;
-    tell::stop::<Passenger>(rt, &sheet, 0, 350, 10)?;
-    print!(rt, "kind E, gradient -20, speed 350: ")?;
-    tell::stop::<ElectroPneumatic>(rt, &sheet, 0, 350, 10)?;
-    print!(rt, "kind H, gradient -20, speed 350: ")?;
-    tell::stop::<FreightByHand>(rt, &sheet, 0, 350, 10)?;
-    print!(rt, "kind J, gradient -20, speed 350: ")?;
-    tell::stop::<PassengerByHand>(rt, &sheet, 0, 350, 10)
+    tell_stop::<Freight>(rt, "kind F, gradient -20, speed 350", &sheet, 0, 350, 10)?;
+    tell_stop::<Passenger>(rt, "kind P, gradient -20, speed 350", &sheet, 0, 350, 10)?;
+    tell_stop::<ElectroPneumatic>(rt, "kind E, gradient -20, speed 350", &sheet, 0, 350, 10)?;
+    tell_stop::<FreightByHand>(rt, "kind H, gradient -20, speed 350", &sheet, 0, 350, 10)?;
+    tell_stop::<PassengerByHand>(rt, "kind J, gradient -20, speed 350", &sheet, 0, 350, 10)
 }
 
 /// A window that ends with the line, and one metre more.
 pub fn window_end(rt: &LibcRuntime) -> io::Result<()> {
     println!(rt, "the end of the window")?;
     let sheet = example(rt, 0)?;
-    print!(rt, "window to the line's end: ")?;
-    tell::stop::<Freight>(rt, &sheet, 2000, 100, 10)?;
-    print!(rt, "one metre more: ")?;
-    tell::stop::<Freight>(rt, &sheet, 2001, 100, 10)
+    tell_stop::<Freight>(rt, "window to the line's end", &sheet, 2000, 100, 10)?;
+    tell_stop::<Freight>(rt, "one metre more", &sheet, 2001, 100, 10)
 }
 
 // A train whose third vehicle is cut out, on curved sections that fall more and more.
@@ -131,7 +148,7 @@ fn falling(rt: &LibcRuntime) -> io::Result<Sheet> {
     Ok(sheet)
 }
 
-/// Stops of many steps, over several sections, and of a locomotive alone.
+/// Stops of many steps over several sections.
 pub fn long_stops(rt: &LibcRuntime) -> io::Result<()> {
     println!(rt, "long stops")?;
     let sheet = falling(rt)?;
@@ -143,22 +160,32 @@ pub fn long_stops(rt: &LibcRuntime) -> io::Result<()> {
         (500, 551),
         (500, 550),
     ] {
-        print!(rt, "place {place}, speed {speed}: ")?;
-        tell::stop::<Freight>(rt, &sheet, place, speed, 9)?;
+        let answer = StopAnswer(stop::<FreightKind, StockOfLaws>(
+            &sheet,
+            &diesel_freight(),
+            place,
+            speed,
+            9,
+        ));
+        println!(rt, "place {place}, speed {speed}: {answer}")?;
     }
-    let mut alone = Sheet::new(rt.alloc())?;
-    let _ = alone.couple(VehicleFigures {
+    Ok(())
+}
+
+/// A stop without wagons.
+pub fn alone(rt: &LibcRuntime) -> io::Result<()> {
+    let mut sheet = Sheet::new(rt.alloc())?;
+    let _ = sheet.couple(VehicleFigures {
         letter: 'L',
         mass: 1380,
         pressure: 420,
     });
-    let _ = alone.append(SectionFigures {
+    let _ = sheet.append(SectionFigures {
         metres: 5000,
         gradient: -40,
         curve: 300,
         radius: 250,
         stop: 0,
     });
-    print!(rt, "locomotive alone, speed 500: ")?;
-    tell::stop::<ElectroPneumatic>(rt, &alone, 100, 500, 6)
+    tell_stop::<ElectroPneumatic>(rt, "locomotive alone, speed 500", &sheet, 100, 500, 6)
 }

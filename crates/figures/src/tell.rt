@@ -1,52 +1,35 @@
 use laws::BrakeKind;
-use laws::CastIron;
 use laws::CastIronLaw;
-use laws::Locomotive;
 use laws::LocomotiveOfLaws;
-use laws::NoPull;
 use laws::NoPullLaw;
-use laws::QuadraticDrag;
 use laws::QuadraticLaw;
-use laws::Stock;
 use laws::StockOfLaws;
-use laws::WagonDrag;
 use laws::WagonLaw;
+use reckoning::stop;
+use report::Outcome;
+use report::OutcomeDisplay;
+use report::StopAnswer;
+use report::StopAnswerDisplay;
+use report::diesel_freight;
 use rules::Refusal;
-use rules::RefusalDisplay;
 use sheet::Sheet;
 use std::io;
 
 /// What a call without figures came to.
-pub fn outcome<T: Drop>(rt: &LibcRuntime, result: Result<T, Refusal>) -> io::Result<()> {
-    match result {
-        Ok(_) => println!(rt, "passed"),
-        Err(refusal) => println!(rt, "{refusal}"),
-    }
+pub fn tell(rt: &LibcRuntime, label: &str, result: Result<(), Refusal>) -> io::Result<()> {
+    let outcome = Outcome(result);
+    println!(rt, "{label}: {outcome}")
 }
 
-/// What a stop question came to, with cast iron blocks, a DF4 locomotive and its wagons.
-pub fn stop<K: BrakeKind>(
+/// What a stop question came to.
+pub fn tell_stop<K: BrakeKind>(
     rt: &LibcRuntime,
+    label: &str,
     sheet: &Sheet,
     place: u32,
     speed: u32,
     factor: u32,
 ) -> io::Result<()> {
-    let locomotive = Locomotive {
-        pull: NoPull,
-        pulling: QuadraticDrag::df4(),
-        coasting: QuadraticDrag::df4(),
-    };
-    let stock = Stock {
-        friction: CastIron,
-        locomotive,
-        wagon: WagonDrag,
-    };
-    match reckoning::stop::<K, StockOfLaws>(sheet, &stock, place, speed, factor) {
-        Ok((distance, least, steps)) => println!(
-            rt,
-            "{distance} mm, least force {least}, steps {steps}"
-        ),
-        Err(refusal) => println!(rt, "{refusal}"),
-    }
+    let answer = StopAnswer(stop::<K, StockOfLaws>(sheet, &diesel_freight(), place, speed, factor));
+    println!(rt, "{label}: {answer}")
 }

@@ -1,6 +1,10 @@
 -- Products and quotients of the forces stay small.
 use Prim.Native.Nat.{ℕ, _+_, _*_, _-_, _/_, _≤_, _<_}
-use mathlib.Core.Path.{_≡_}
+use mathlib.Core.Bool.{Bool, true, false, cond}
+use mathlib.Core.Path.{_≡_, refl}
+use lib.Dec.{eqb}
+use Rattle.std.proofs.shelf.Tests.{eqb-false}
+use Rattle.rules.specs.Book.{per-wagon}
 use native.Mathlib.Nat.{mul-le-mul, mul-le-mul-right, div-lt-iff-lt-mul, le-div-iff-mul-le}
 use native.Mathlib.Omega.{arith}
 use Rattle.rules.specs.Ratio.{ratio, rounded-up}
@@ -12,12 +16,13 @@ pressed-small g k h l = mul-le-mul h l
 pub pressed-within : (g k m : ℕ) → g ≤ 10 → k ≤ m → g * k ≤ 10 * m
 pressed-within g k m h l = mul-le-mul h l
 
-pub weighed-small : (m f : ℕ) → f ≤ 1000000 → m * f ≤ 1000000 * m
+pub weighed-small : (m f : ℕ) → f ≤ 4294967295 → m * f ≤ 4294967295 * m
 weighed-small m f h = omega (arith, mul-le-mul-right m h)
 
-pub mean-small : (a b p q : ℕ) → 1 ≤ p → a ≤ 1000000 * p → b ≤ 1000000 * q → (a + b) / (p + q) ≤ 1000000
+-- a mean is at most the bound of its parts
+pub mean-small : (a b p q : ℕ) → 1 ≤ p → a ≤ 4294967295 * p → b ≤ 4294967295 * q → (a + b) / (p + q) ≤ 4294967295
 mean-small a b p q some h k =
-    let e : (a + b) / (p + q) < 1000001 = div-lt-iff-lt-mul {k = p + q} (omega arith) .1 (omega arith) in
+    let e : (a + b) / (p + q) < 4294967296 = div-lt-iff-lt-mul {k = p + q} (omega arith) .1 (omega arith) in
     omega arith
 
 pub parts-small : (t c b d : ℕ) → t ≤ 60 → c ≤ 2 * t → b < 4294967296 → d < 4294967296 → 1000 * t * b + 1000 * c * d ≤ 180000 * 4294967296
@@ -44,9 +49,13 @@ run-small y z n h k =
 pub quotient-small : (n d k : ℕ) → 1 ≤ d → n ≤ k → rounded-up (ratio n d) ≤ k
 quotient-small n d k h l = up-least (ratio n d) h k (omega (arith, mul-le-mul l h))
 
+by-wagons : (b : Bool) (m n : ℕ) → eqb n 0 ≡ b → 50 * n ≤ m → m ≤ 2000 * n → (50 ≤ cond b 50 (rounded-up (ratio m n))) × (cond b 50 (rounded-up (ratio m n)) ≤ 2000)
+by-wagons true m n e h k = (omega arith, omega arith)
+by-wagons false m n e h k =
+    let some : 1 ≤ n = omega (arith, eqb-false n 0 e) in
+    let down : 50 ≤ m / n = le-div-iff-mul-le {k = n} some .1 h in
+    (omega arith, up-least (ratio m n) some 2000 k)
+
 -- the mass per wagon of wagons of 50 to 2,000 is 50 to 2,000
-pub per-wagon-range : (m n : ℕ) → (n ≡ 0 → ⊥) → 50 * n ≤ m → m ≤ 2000 * n → (50 ≤ rounded-up (ratio m n)) × (rounded-up (ratio m n) ≤ 2000)
-per-wagon-range m n some h k =
-    let one : 1 ≤ n = omega arith in
-    let down : 50 ≤ m / n = le-div-iff-mul-le {k = n} one .1 h in
-    (omega arith, up-least (ratio m n) one 2000 k)
+pub per-wagon-range : (m n : ℕ) → 50 * n ≤ m → m ≤ 2000 * n → (50 ≤ per-wagon m n) × (per-wagon m n ≤ 2000)
+per-wagon-range m n h k = by-wagons (eqb n 0) m n refl h k

@@ -1,7 +1,9 @@
 -- The number by which each refusal is told, and how numbered questions decide.
 use Prim.Native.Nat.{ℕ}
 use mathlib.Core.Bool.{Bool, cond}
-use mathlib.Core.List.{List, [], _∷_}
+use mathlib.Core.List.{List, [], _∷_, _++_}
+use lib.Chars.{codes}
+use Rattle.std.specs.Written.{decimal}
 use Rattle.std.specs.declared.option.Option.{Option}
 use Rattle.std.specs.declared.option.Option.the-variants.{Some, None}
 use Rattle.std.specs.declared.result.Result.{Result}
@@ -63,3 +65,7 @@ decide (Some n) r = refused n
 abbrev pub stop-reply : Result (ℕ × ℕ × ℕ) Refusal → Reply
 stop-reply (Ok t) = stops (t .0) (t .1) (t .2)
 stop-reply (Err e) = refused (number-of e)
+
+-- what is printed of a refusal
+abbrev pub refusal-text : Refusal → List ℕ
+refusal-text e = codes "refused " ++ decimal (number-of e)

@@ -1,5 +1,6 @@
 ghost use mathlib.Core.Path.{_≡_};
-ghost use Rattle.rules.specs.Refusals.{number-of};
+ghost use Rattle.rules.specs.Refusals.{number-of, refusal-text};
+ghost use Rattle.std.specs.declared.option.Option.the-variants.{Some};
 use std::fmt;
 
 /// Why a call is refused.
@@ -57,6 +58,8 @@ impl Refusal {
 }
 
 pub impl fmt::Display for Refusal as RefusalDisplay {
+    ghost shown = { λ x. Some (refusal-text x) };
+
     fn fmt<W: fmt::Write>(&self, f: &mut fmt::Formatter<W>) -> fmt::Result {
         let number = self.number();
         write!(f, "refused {number}")

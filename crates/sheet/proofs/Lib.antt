@@ -1,4 +1,0 @@
-mod Tables
-mod Trains
-mod Lawful
-mod Windows

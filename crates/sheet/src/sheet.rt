@@ -1,6 +1,6 @@
 ghost use Prim.Native.Nat.{_≤_};
-use crate::consist::Consist;
-use crate::line::Line;
+use line::Line;
+use train::Consist;
 
 pub mod edits;
 

@@ -38,7 +38,7 @@ impl Approach {
     // The drag of the coasting locomotives, times their mass.
     fn hauling_drag<S: StockLaws>(&self, stock: &S, step: Step) -> u64
         ensures value { λ r. ⌜ r ≡ now (self .entry) .hauling * drag-in (S·StockLaws .meaning (now (stock .entry)) .coasting) (step-of step) (now (self .entry) .gross .tenths) ⌝ }
-        ensures small { λ r. ⌜ r ≤ 1000000 * now (self .entry) .hauling ⌝ }
+        ensures small { λ r. ⌜ r ≤ 4294967295 * now (self .entry) .hauling ⌝ }
     {
         weighed(
             self.hauling,
@@ -49,7 +49,7 @@ impl Approach {
     // The drag of the wagons, times their mass; without wagons their law is not read.
     fn trailing_drag<S: StockLaws>(&self, stock: &S, step: Step) -> u64
         ensures value { λ r. ⌜ r ≡ now (self .entry) .trailing * drag-in (S·StockLaws .meaning (now (stock .entry)) .wagon) (step-of step) (now (self .entry) .gross .tenths) ⌝ }
-        ensures small { λ r. ⌜ r ≤ 1000000 * now (self .entry) .trailing ⌝ }
+        ensures small { λ r. ⌜ r ≤ 4294967295 * now (self .entry) .trailing ⌝ }
     {
         if self.trailing == 0 {
             return 0;
@@ -57,11 +57,19 @@ impl Approach {
         weighed(self.trailing, stock.wagon_below(step.bottom(), self.gross))
     }
 
+    // The brake force in a step, at its upper speed.
+    fn braking<S: StockLaws>(&self, stock: &S, step: Step) -> Milli
+        ensures { λ r. ⌜ r .0 ≡ brake-force (approach-of (now (self .entry)) (S·StockLaws .meaning (now (stock .entry)))) (step-of step .top) ⌝ }
+    {
+        self.brake_force(stock, step.top())
+    }
+
     // The force that holds the train back in a step.
     pub(crate) fn holding<S: StockLaws>(&self, stock: &S, step: Step) -> i64
         ensures { λ r. ⌜ r ≡ holding-force (approach-of (now (self .entry)) (S·StockLaws .meaning (now (stock .entry)))) (step-of step) ⌝ }
     {
-        self.lowest.holding(self.brake_force(stock, step.top()), self.drag(stock, step))
+        self.lowest
+            .holding(self.braking(stock, step), self.drag(stock, step))
     }
 
     // The distance in millimetres that the train runs before the brakes hold.
@@ -80,9 +88,8 @@ impl Approach {
 
 // A specific force times the mass that it acts on.
 fn weighed(mass: u32, force: Milli) -> u64
-    requires { ⌜ mass ≤ 240000 ⌝ ∗ ⌜ force .0 ≤ 1000000 ⌝ }
     ensures value { λ r. ⌜ r ≡ mass * force .0 ⌝ }
-    ensures small { λ r. ⌜ r ≤ 1000000 * mass ⌝ }
+    ensures small { λ r. ⌜ r ≤ 4294967295 * mass ⌝ }
 {
     u64::from(mass) * u64::from(force.milli())
 }

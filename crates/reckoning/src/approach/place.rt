@@ -6,7 +6,7 @@ ghost use mathlib.Core.Path.{_≡_};
 use super::Approach;
 use rules::Refusal;
 use sheet::Sheet;
-use sheet::Totals;
+use train::Totals;
 use units::Gross;
 
 impl Approach {
@@ -44,17 +44,24 @@ fn is_in_range(place: u32, factor: u32) -> bool
     place <= 4_000_000 && 1 <= factor && factor <= 10
 }
 
-// The mass of the wagons over their number, rounded up; 5 t without wagons.
+// The gross mass per wagon at which a stop reads every drag.
 fn mass_per_wagon(totals: Totals) -> Gross
     ensures { λ r. ⌜ r .tenths ≡ per-wagon (totals .trailing) (totals .wagons) ⌝ }
 {
-    let tenths = if totals.wagons() == 0 {
-        50
-    } else {
-        totals.trailing().div_ceil(totals.wagons())
-    };
-    let Some(gross) = Gross::from_tenths(tenths) else {
+    let Some(gross) = Gross::from_tenths(tenths_per_wagon(totals.trailing(), totals.wagons()))
+    else {
         unreachable()
     };
     gross
+}
+
+// A mass over a number of wagons, rounded up; 5 t without wagons.
+fn tenths_per_wagon(mass: u32, wagons: u32) -> u32
+    ensures { λ r. ⌜ r ≡ per-wagon mass wagons ⌝ }
+{
+    if wagons == 0 {
+        50
+    } else {
+        mass.div_ceil(wagons)
+    }
 }

@@ -2,21 +2,21 @@ ghost use Rattle.rules.specs.Book.{new-book, coupled, uncoupled, cut-out, resto
 ghost use Rattle.rules.specs.Questions.{coupling, vehicle-there, appending, setting-distance};
 ghost use Rattle.rules.specs.Refusals.{told, first-no, unless};
 ghost use Rattle.sheet.specs.Sheets.{book-of};
-ghost use Rattle.sheet.specs.Vehicles.{vehicle-of};
+ghost use Rattle.train.specs.Vehicles.{vehicle-of};
 ghost use Rattle.std.specs.Options.{mapped};
 ghost use Rattle.std.specs.Vec.{made};
 ghost use lib.ListN.{length};
 ghost use mathlib.Core.Path.{_≡_};
 use super::Sheet;
-use crate::consist::Consist;
-use crate::line::Line;
-use crate::section::Section;
-use crate::vehicle::Vehicle;
+use line::Line;
+use line::Section;
 use rules::Refusal;
 use rules::SectionFigures;
 use rules::VehicleFigures;
 use std::alloc::AllocError;
 use std::alloc::Global;
+use train::Consist;
+use train::Vehicle;
 
 impl Sheet {
     /// A new sheet: no vehicle, no section, and a braking distance of 1,000 m. Only this call can want memory.

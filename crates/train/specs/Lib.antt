@@ -1,0 +1,3 @@
+pub mod Vehicles
+pub mod Consists
+pub mod Totals
