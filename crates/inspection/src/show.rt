@@ -12,10 +12,10 @@ pub fn show_sheet(rt: &LibcRuntime, sheet: &Sheet) -> io::Result<()> {
 }
 
 fn show_train(rt: &LibcRuntime, sheet: &Sheet) -> io::Result<()> {
-    if sheet.vehicles() == 0 {
+    if sheet.vehicle_count() == 0 {
         println!(rt, "  no vehicle")?;
     }
-    for k in 0..sheet.vehicles() {
+    for k in 0..sheet.vehicle_count() {
         if let Some(vehicle) = sheet.vehicle(k) {
             show_vehicle(rt, k, vehicle.figures(), vehicle.braked())?;
         }
@@ -42,10 +42,10 @@ fn show_vehicle(
 }
 
 fn show_line(rt: &LibcRuntime, sheet: &Sheet) -> io::Result<()> {
-    if sheet.sections() == 0 {
+    if sheet.section_count() == 0 {
         println!(rt, "  no section")?;
     }
-    for k in 0..sheet.sections() {
+    for k in 0..sheet.section_count() {
         if let Some(section) = sheet.section(k) {
             show_section(rt, k, section.figures())?;
         }

@@ -1,39 +1,30 @@
-ghost use Prim.Native.Nat.{ℕ, _*_, _≤_};
 ghost use mathlib.Core.Path.{_≡_};
-ghost use Rattle.rules.specs.Kind.{freight, passenger, electro-pneumatic, freight-by-hand, passenger-by-hand};
+ghost use Rattle.rules.specs.Kind.{Kind, LawfulKind, freight, passenger, electro-pneumatic, freight-by-hand, passenger-by-hand};
 ghost use Rattle.laws.specs.Kinds.{kind-by-letter};
 
-/// A kind of brake by its two constants. Before it holds, T seconds pass, and C seconds more for each part of the brake
-/// force that a fall takes.
+/// A kind of brake by its two constants: before the brakes hold, T + C d / B seconds pass, where d is how steep the fall is
+/// and B the brake force.
 pub trait BrakeKind {
-    ghost seconds: { ℕ };
+    ghost meaning: { Kind };
 
-    ghost slope: { ℕ };
-
-    law prompt: { 1 ≤ seconds };
-
-    law bounded: { seconds ≤ 60 };
-
-    law mild: { slope ≤ 2 * seconds };
+    law lawful: { LawfulKind meaning };
 
     /// The seconds that always pass.
     const T: u32;
 
-    /// The seconds for a fall.
+    /// The extra seconds where the fall is as strong as the brakes.
     const C: u32;
 
     /// Both constants, T first. What stands over any kind of brake reads them here.
     fn constants() -> (u32, u32)
-        ensures { λ r. ⌜ r ≡ (seconds, slope) ⌝ };
+        ensures { λ r. ⌜ r ≡ (meaning .seconds, meaning .extra) ⌝ };
 }
 
 /// The air brake of a freight train.
 pub struct Freight;
 
 pub impl BrakeKind for Freight as FreightKind {
-    ghost seconds = { freight .seconds };
-
-    ghost slope = { freight .slope };
+    ghost meaning = { freight };
 
     const T: u32 = 7;
 
@@ -48,9 +39,7 @@ pub impl BrakeKind for Freight as FreightKind {
 pub struct Passenger;
 
 pub impl BrakeKind for Passenger as PassengerKind {
-    ghost seconds = { passenger .seconds };
-
-    ghost slope = { passenger .slope };
+    ghost meaning = { passenger };
 
     const T: u32 = 4;
 
@@ -65,9 +54,7 @@ pub impl BrakeKind for Passenger as PassengerKind {
 pub struct ElectroPneumatic;
 
 pub impl BrakeKind for ElectroPneumatic as ElectroPneumaticKind {
-    ghost seconds = { electro-pneumatic .seconds };
-
-    ghost slope = { electro-pneumatic .slope };
+    ghost meaning = { electro-pneumatic };
 
     const T: u32 = 2;
 
@@ -82,9 +69,7 @@ pub impl BrakeKind for ElectroPneumatic as ElectroPneumaticKind {
 pub struct FreightByHand;
 
 pub impl BrakeKind for FreightByHand as FreightByHandKind {
-    ghost seconds = { freight-by-hand .seconds };
-
-    ghost slope = { freight-by-hand .slope };
+    ghost meaning = { freight-by-hand };
 
     const T: u32 = 30;
 
@@ -99,9 +84,7 @@ pub impl BrakeKind for FreightByHand as FreightByHandKind {
 pub struct PassengerByHand;
 
 pub impl BrakeKind for PassengerByHand as PassengerByHandKind {
-    ghost seconds = { passenger-by-hand .seconds };
-
-    ghost slope = { passenger-by-hand .slope };
+    ghost meaning = { passenger-by-hand };
 
     const T: u32 = 60;
 
@@ -129,7 +112,7 @@ pub enum KindLetter {
 
 /// The two constants of a kind of brake by its letter, T first.
 pub fn constants_of(kind: KindLetter) -> (u32, u32)
-    ensures { λ r. ⌜ r ≡ ((kind-by-letter kind) .seconds, (kind-by-letter kind) .slope) ⌝ }
+    ensures { λ r. ⌜ r ≡ ((kind-by-letter kind) .seconds, (kind-by-letter kind) .extra) ⌝ }
 {
     match kind {
         KindLetter::F => (Freight::T, Freight::C),

@@ -1,4 +1,3 @@
-ghost use Rattle.rules.specs.Kind.{kind};
 ghost use Rattle.rules.specs.Questions.{asked-to-stop};
 ghost use Rattle.rules.specs.Refusals.{stop-reply};
 ghost use Rattle.sheet.specs.Sheets.{book-of};
@@ -20,7 +19,7 @@ pub fn stop<K: BrakeKind, S: StockLaws>(
     speed: u32,
     factor: u32,
 ) -> Result<(u32, u32, u32), Refusal>
-    ensures { λ r. ⌜ stop-reply r ≡ asked-to-stop (kind (K·BrakeKind .seconds) (K·BrakeKind .slope)) (S·StockLaws .meaning (now (stock .entry))) (book-of (now (sheet .entry))) place speed factor ⌝ }
+    ensures { λ r. ⌜ stop-reply r ≡ asked-to-stop (K·BrakeKind .meaning) (S·StockLaws .meaning (now (stock .entry))) (book-of (now (sheet .entry))) place speed factor ⌝ }
 {
     let Some(v) = Speed::from_tenths(speed) else {
         return Err(Refusal::QuestionOutOfRange);

@@ -2,10 +2,12 @@
 use Prim.Native.Nat.{ℕ, zero, suc, _+_, _*_, _/_, _%_, _≤_, _<_, min}
 use mathlib.Core.Path.{_≡_, refl, sym, ap, _∙_}
 use native.Mathlib.Omega.{arith}
-use native.Mathlib.Nat.{div-mul-le-self, lt-div-mul-add, lt-of-mul-lt-mul-right, div-add-mod', mod-lt}
+use native.Mathlib.Nat.{div-mul-le-self, lt-div-mul-add, lt-of-mul-lt-mul-right, div-add-mod'}
 use lib.IntN.{ℤ, pos, negsuc, _+ℤ_, _*ℤ_, negℤ}
 use borrow.Author.Differences.{up, down, same-in, sum-is, product-is, neg-is}
 use Rattle.rules.specs.Fraction.{floored}
+use Rattle.rules.specs.Ratio.{ratio}
+use Rattle.rules.proofs.Ratios.{up-over}
 
 -- q d ≤ z < (q + 1) d
 abbrev pub FloorOf : ℤ → ℕ → ℤ → Type 0
@@ -34,10 +36,6 @@ shifted-high : (d k n zu zd wu wd xu xd : ℕ) → n < k * d + d → wu + zd ≡
 shifted-high d k n zu zd wu wd xu xd h e f = omega (arith, ap (λ (t : ℕ). t * d) e)
 
 -- rounded up, likewise
-ceil-over : (q r d n : ℕ) → r < d → q * d + r ≡ n → n ≤ (q + min 1 r) * d
-ceil-over q zero d n h e = omega arith
-ceil-over q (suc r) d n h e = let m : min 1 (suc r) ≡ 1 = omega arith in rw m (omega arith)
-
 ceil-under : (q r d n : ℕ) → 1 ≤ d → q * d + r ≡ n → (q + min 1 r) * d < n + d
 ceil-under q zero d n h e = omega arith
 ceil-under q (suc r) d n h e = let m : min 1 (suc r) ≡ 1 = omega arith in rw m (omega arith)
@@ -72,7 +70,7 @@ module _ (z : ℤ) (n d : ℕ) (some : 1 ≤ d) where
       let w = z +ℤ pos k in
       let x = z *ℤ pos d +ℤ pos n in
       let e : up w + down z ≡ down w + up z + k = omega (arith, sum-is z (pos k)) in
-      let over = ceil-over (n / d) (n % d) d n (mod-lt n some) (div-add-mod' n d) in
+      let over = up-over (ratio n d) some in
       let under = ceil-under (n / d) (n % d) d n some (div-add-mod' n d) in
       let f = one-floor (negℤ x) d (negℤ w) some (
         omega (arith, ap (λ (t : ℕ). t * d) (neg-is w .0), ap (λ (t : ℕ). t * d) (neg-is w .1), neg-is x, raised-low d k n (up z) (down z) (up w) (down w) (up x) (down x) over e sum),

@@ -1,7 +1,7 @@
 -- The book: the train, the line and the braking distance, each figure as it was given, and what the calls do in it.
 -- Masses and pressures are in tenths of a tonne, lengths in metres.
-use Prim.Native.Nat.{ℕ, zero, suc, _+_, _-_, _*_, _/_, _%_, min}
-use mathlib.Core.Bool.{Bool, true, false, not, cond}
+use Prim.Native.Nat.{ℕ, zero, suc, _+_, _-_}
+use mathlib.Core.Bool.{Bool, true, false, cond}
 use mathlib.Core.List.{List, [], _∷_, _++_}
 use mathlib.Core.Path.{_≡_}
 use lib.Dec.{eqb}
@@ -15,6 +15,9 @@ use Rattle.rules.specs.Ratio.{ratio, rounded-up}
 pub record Vehicle : Type 0 where
   pub figures : VehicleFigures
   pub braked : Bool
+
+abbrev pub vehicle : VehicleFigures → Bool → Vehicle
+vehicle f on = record { figures = f; braked = on }
 
 -- vehicles from the front, sections from the start of the line, and the braking distance L
 pub record Book : Type 0 where
@@ -32,7 +35,7 @@ new-book = book [] [] 1000
 
 -- the train with a vehicle coupled at the rear, its brake in
 abbrev pub with-rear : List Vehicle → VehicleFigures → List Vehicle
-with-rear vs f = vs ++ record { figures = f; braked = true } ∷ []
+with-rear vs f = vs ++ vehicle f true ∷ []
 
 abbrev pub without-rear : List Vehicle → List Vehicle
 without-rear vs = take (length vs - 1) vs
@@ -40,7 +43,7 @@ without-rear vs = take (length vs - 1) vs
 -- the train with the brake of vehicle k in or out, and every other vehicle as it was
 abbrev pub with-brake : Bool → List Vehicle → ℕ → List Vehicle
 with-brake on [] k = []
-with-brake on (v ∷ vs) zero = record { figures = v .figures; braked = on } ∷ vs
+with-brake on (v ∷ vs) zero = vehicle (v .figures) on ∷ vs
 with-brake on (v ∷ vs) (suc k) = v ∷ with-brake on vs k
 
 abbrev pub coupled : Book → VehicleFigures → Book
@@ -76,9 +79,15 @@ abbrev pub sum-of : {X : Type 0} → (X → ℕ) → List X → ℕ
 sum-of f [] = 0
 sum-of f (x ∷ xs) = f x + sum-of f xs
 
--- the letter L
+-- the letters of a locomotive and of a wagon, L and W
+abbrev pub locomotive-letter : ℕ
+locomotive-letter = 76
+
+abbrev pub wagon-letter : ℕ
+wagon-letter = 87
+
 abbrev pub is-locomotive : Vehicle → Bool
-is-locomotive v = eqb (v .figures .letter) 76
+is-locomotive v = eqb (v .figures .letter) locomotive-letter
 
 abbrev pub locomotives : List Vehicle → ℕ
 locomotives = sum-of (λ v. cond (is-locomotive v) 1 0)

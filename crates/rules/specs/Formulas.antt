@@ -1,14 +1,6 @@
 -- The formulas of the laws, as exact ratios.
 use Prim.Native.Nat.{ℕ, _+_, _*_, _≤_}
-use Rattle.rules.specs.Ratio.{Ratio, ratio, rounded-down, rounded-up}
-use Rattle.rules.specs.Law.{Falling, Drag, falling, drag}
-
--- the laws whose values are the exact ratio rounded down and up
-abbrev pub rounded : (ℕ → Ratio) → Falling
-rounded e = falling e (λ v. rounded-down (e v)) (λ v. rounded-up (e v)) 1
-
-abbrev pub rounded-drag : (ℕ → ℕ → Ratio) → Drag
-rounded-drag e = drag e (λ v q. rounded-down (e v q)) (λ v q. rounded-up (e v q)) 1
+use Rattle.rules.specs.Ratio.{Ratio, ratio}
 
 -- friction of cast iron blocks, in millionths
 abbrev pub cast-iron : ℕ → Ratio

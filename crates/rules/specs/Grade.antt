@@ -22,7 +22,7 @@ low-grade f = floor (grade f)
 abbrev pub high-grade : SectionFigures → ℤ
 high-grade f = maxZ (ceiling (grade f)) (pos 0)
 
--- the least of a list that is not empty
+-- the least of a list, and `none` where it is empty
 abbrev pub lowest : {X : Type 0} → (X → X → X) → X → List X → X
 lowest lesser none [] = none
 lowest lesser none (x ∷ []) = x

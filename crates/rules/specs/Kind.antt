@@ -1,17 +1,18 @@
--- Kinds of brake. Before a brake holds, T seconds pass, and c seconds more for each part of the brake force that a fall takes.
+-- Kinds of brake by their two constants, T and c: before the brakes hold, T + c d / B seconds pass, where d is how steep the
+-- fall is and B the brake force.
 use Prim.Native.Nat.{ℕ, _*_, _≤_}
 
 pub record Kind : Type 0 where
   pub seconds : ℕ
-  pub slope : ℕ
+  pub extra : ℕ
 
 abbrev pub kind : ℕ → ℕ → Kind
-kind t c = record { seconds = t; slope = c }
+kind t c = record { seconds = t; extra = c }
 
 pub record LawfulKind (k : Kind) : Type 0 where
-  pub prompt : 1 ≤ k .seconds
-  pub bounded : k .seconds ≤ 60
-  pub mild : k .slope ≤ 2 * k .seconds
+  pub some : 1 ≤ k .seconds
+  pub few : k .seconds ≤ 60
+  pub mild : k .extra ≤ 2 * k .seconds
 
 abbrev pub freight : Kind
 freight = kind 7 10

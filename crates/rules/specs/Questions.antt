@@ -11,13 +11,17 @@ use Rattle.rules.specs.declared.figures.SectionFigures.{SectionFigures}
 use Rattle.rules.specs.Refusals.{Question, _otherwise_, Reply, decide, first-no, stops}
 use Rattle.rules.specs.Law.{Stock}
 use Rattle.rules.specs.Kind.{Kind}
-use Rattle.rules.specs.Book.{Book, Vehicle, locomotives, line-length}
+use Rattle.rules.specs.Book.{Book, Vehicle, locomotive-letter, wagon-letter, locomotives, line-length}
 use Rattle.rules.specs.Stop.{Approach, approach-at, brake-force, holding-force, all-hold, steps-from, distance, least-force}
 
--- letter L or W, mass 50 to 2,000, pressure up to the mass
+-- letter L or W
+abbrev pub lawful-letter : ℕ → Bool
+lawful-letter letter = eqb letter locomotive-letter || eqb letter wagon-letter
+
+-- and mass 50 to 2,000, pressure up to the mass
 abbrev pub lawful-vehicle : VehicleFigures → Bool
 lawful-vehicle f =
-    (eqb (f .letter) 76 || eqb (f .letter) 87) && (leb 50 (f .mass) && (leb (f .mass) 2000 && leb (f .pressure) (f .mass)))
+    lawful-letter (f .letter) && (leb 50 (f .mass) && (leb (f .mass) 2000 && leb (f .pressure) (f .mass)))
 
 abbrev pub coupling : List Vehicle → VehicleFigures → List Question
 coupling vs f = (lawful-vehicle f otherwise 1) ∷ (ltb (length vs) 120 otherwise 2) ∷ []

@@ -50,9 +50,8 @@ abbrev pub unless : {X : Type 0} → Option ℕ → X → X → X
 unless None changed old = changed
 unless (Some n) changed old = old
 
--- what comes back from a call: it passed, it is answered by its figures, or it is refused with a number
+-- what comes back from a question: its figures, or a refusal with its number
 pub data Reply : Type 0 where
-  passed : Reply
   stops : ℕ → ℕ → ℕ → Reply
   refused : ℕ → Reply
 

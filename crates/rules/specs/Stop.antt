@@ -5,7 +5,7 @@ use mathlib.Core.Bool.{Bool, true, _&&_}
 use mathlib.Core.List.{List, [], _∷_, map}
 use lib.IntN.{ℤ, pos, _+ℤ_}
 use lib.Signed.{leZ}
-use borrow.Author.Differences.{up, down}
+use Rattle.rules.specs.Fraction.{natural-of, fall-of}
 use Rattle.rules.specs.Ratio.{ratio, rounded-down, rounded-up}
 use Rattle.rules.specs.Law.{Stock, Drag}
 use Rattle.rules.specs.Kind.{Kind}
@@ -100,7 +100,7 @@ least-of b (n ∷ ns) = min n (least-of b ns)
 
 -- m, the smallest of B at the speed asked and every N
 abbrev pub least-force : Approach → ℕ → ℕ
-least-force a v = least-of (brake-force a v) (map (λ s. up (holding-force a s)) (steps-from v))
+least-force a v = least-of (brake-force a v) (map (λ s. natural-of (holding-force a s)) (steps-from v))
 
 -- ---- distances
 
@@ -110,12 +110,12 @@ braking-run s n = rounded-up (ratio (41700 * (s .top * s .top - s .bottom * s .b
 
 -- all steps
 abbrev pub braking-distance : (Step → ℤ) → List Step → ℕ
-braking-distance force = sum-of (λ s. braking-run s (up (force s)))
+braking-distance force = sum-of (λ s. braking-run s (natural-of (force s)))
 
 -- before the brakes hold, at the speed v under the brake force b on the grade g: v (1,000 T b + 1,000 c d) / (36 b),
 -- rounded up, where d is −g on a fall, else 0
 unfoldable pub delay-run : Kind → ℕ → ℕ → ℤ → ℕ
-delay-run k v b g = rounded-up (ratio (v * (1000 * k .seconds * b + 1000 * k .slope * down g)) (36 * b))
+delay-run k v b g = rounded-up (ratio (v * (1000 * k .seconds * b + 1000 * k .extra * fall-of g)) (36 * b))
 
 -- the delay and all steps
 abbrev pub distance : Kind → Approach → ℕ → ℕ

@@ -6,18 +6,18 @@ use mathlib.Core.Path.{_≡_, refl, sym, ap, subst, _∙_}
 use native.Mathlib.Omega.{arith}
 use lib.ListN.{length, getD, set, take}
 use Rattle.std.proofs.shelf.Lists.{length-map, take-map}
-use Rattle.rules.specs.Book.{Vehicle as BookVehicle, with-brake, without-rear, OnlyBrakeOf}
+use Rattle.rules.specs.Book.{Vehicle as BookVehicle, vehicle, with-brake, without-rear, OnlyBrakeOf}
 use Rattle.train.specs.declared.vehicle.Vehicle.{Vehicle}
-use Rattle.train.specs.Vehicles.{vehicle-of, braked-as}
+use Rattle.train.specs.Vehicles.{vehicle-of}
 
 pub without-last : (xs : List Vehicle) → map vehicle-of (take (length xs - 1) xs) ≡ without-rear (map vehicle-of xs)
 without-last xs = rw length-map (sym (take-map vehicle-of (length xs - 1) xs))
 
 -- the vehicle w in the place of x at k, with its brake in or out
-pub set-brake : (on : Bool) (xs : List Vehicle) (k : ℕ) (x w : Vehicle) → k < length xs → x ≡ getD xs k x → vehicle-of w ≡ braked-as on (vehicle-of x)
+pub set-brake : (on : Bool) (xs : List Vehicle) (k : ℕ) (x w : Vehicle) → k < length xs → x ≡ getD xs k x → vehicle-of w ≡ vehicle (x .figures) on
     → map vehicle-of (set xs k w) ≡ with-brake on (map vehicle-of xs) k
 set-brake on [] k x w h e f = absurd (omega arith)
-set-brake on (y ∷ xs) zero x w h e f = ap (λ t. t ∷ map vehicle-of xs) (f ∙ ap (λ u. braked-as on (vehicle-of u)) e)
+set-brake on (y ∷ xs) zero x w h e f = ap (λ t. t ∷ map vehicle-of xs) (f ∙ ap (λ (u : Vehicle). vehicle (u .figures) on) e)
 set-brake on (y ∷ xs) (suc k) x w h e f = ap (λ t. vehicle-of y ∷ t) (set-brake on xs k x w (omega arith) e f)
 
 same-count : (on : Bool) (vs : List BookVehicle) (k : ℕ) → length (with-brake on vs k) ≡ length vs

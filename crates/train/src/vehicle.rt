@@ -1,6 +1,6 @@
 ghost use Prim.Native.Nat.{_≤_};
-ghost use lib.Dec.{eqb};
-ghost use mathlib.Core.Bool.{true, _||_};
+ghost use Rattle.rules.specs.Questions.{lawful-letter};
+ghost use mathlib.Core.Bool.{true};
 ghost use mathlib.Core.Path.{_≡_};
 use rules::VehicleFigures;
 
@@ -11,8 +11,8 @@ pub mod brake;
 pub struct Vehicle {
     figures: VehicleFigures,
     braked: bool,
-    ghost lettered: { (eqb (figures .letter) 76 || eqb (figures .letter) 87) ≡ true },
-    ghost light: { 50 ≤ figures .mass },
-    ghost heavy: { figures .mass ≤ 2000 },
+    ghost lettered: { lawful-letter (figures .letter) ≡ true },
+    ghost least: { 50 ≤ figures .mass },
+    ghost most: { figures .mass ≤ 2000 },
     ghost weaker: { figures .pressure ≤ figures .mass },
 }

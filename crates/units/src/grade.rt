@@ -1,11 +1,11 @@
 ghost use mathlib.Core.Path.{_≡_};
 ghost use lib.IntN.{pos, _+ℤ_};
-ghost use borrow.Author.Differences.{down};
+ghost use Rattle.rules.specs.Fraction.{fall-of};
 ghost use Rattle.std.specs.Numbers.{minZ};
 use crate::quantity::Milli;
 
 /// A grade in milli: 1,000 for each per mille, negative where the line falls.
-#[derive(Clone, Copy, PartialEq, Eq, PartialOrd, Ord, Debug)]
+#[derive(Clone, Copy, PartialEq, Eq, Debug)]
 pub struct Grade(i32);
 
 impl Grade {
@@ -30,16 +30,16 @@ impl Grade {
         Grade(self.0.min(other.0))
     }
 
-    /// How steep a fall is, in milli; 0 on the level and on a rise.
-    pub fn fall(self) -> u32
-        ensures { λ r. ⌜ r ≡ down (self .0) ⌝ }
+    /// How steep a fall is; 0 on the level and on a rise.
+    pub fn fall(self) -> Milli
+        ensures { λ r. ⌜ r .0 ≡ fall-of (self .0) ⌝ }
     {
-        self.0.min(0).unsigned_abs()
+        Milli::from_milli(self.0.min(0).unsigned_abs())
     }
 
     /// The force that holds a train back on this grade under a brake force and a drag, in milli. It is negative where the
     /// fall outweighs both.
-    pub fn holding(self, brake: Milli, drag: Milli) -> i64
+    pub fn holding_milli(self, brake: Milli, drag: Milli) -> i64
         ensures { λ r. ⌜ r ≡ pos (brake .0) +ℤ pos (drag .0) +ℤ self .0 ⌝ }
     {
         i64::from(brake.milli()) + i64::from(drag.milli()) + i64::from(self.0)

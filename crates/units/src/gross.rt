@@ -3,7 +3,7 @@ ghost use mathlib.Core.Path.{_≡_};
 ghost use Rattle.std.specs.Options.{Cases};
 
 /// A gross mass per wagon in tenths of a tonne, 5 to 200 t.
-#[derive(Clone, Copy, PartialEq, Eq, PartialOrd, Ord, Debug)]
+#[derive(Clone, Copy, PartialEq, Eq, Debug)]
 pub struct Gross {
     tenths: u32,
     ghost lawful: { (50 ≤ tenths) × (tenths ≤ 2000) },

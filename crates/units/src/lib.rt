@@ -13,6 +13,5 @@ pub use quantity::FrictionQuantity;
 pub use quantity::Kgf;
 pub use quantity::KgfQuantity;
 pub use quantity::Milli;
-pub use quantity::MilliQuantity;
 pub use quantity::Quantity;
 pub use speed::Speed;

@@ -15,7 +15,7 @@ pub trait Quantity: Copy {
 }
 
 /// A coefficient of friction in millionths.
-#[derive(Clone, Copy, PartialEq, Eq, PartialOrd, Ord, Debug)]
+#[derive(Clone, Copy, PartialEq, Eq, Debug)]
 pub struct Friction(u32);
 
 impl Friction {
@@ -47,7 +47,7 @@ pub impl Quantity for Friction as FrictionQuantity {
 }
 
 /// A force in kgf.
-#[derive(Clone, Copy, PartialEq, Eq, PartialOrd, Ord, Debug)]
+#[derive(Clone, Copy, PartialEq, Eq, Debug)]
 pub struct Kgf(u32);
 
 impl Kgf {
@@ -79,7 +79,7 @@ pub impl Quantity for Kgf as KgfQuantity {
 }
 
 /// A force per mass in milli, thousandths of kgf/t. It is never negative.
-#[derive(Clone, Copy, PartialEq, Eq, PartialOrd, Ord, Debug)]
+#[derive(Clone, Copy, PartialEq, Eq, Debug)]
 pub struct Milli(u32);
 
 impl Milli {
@@ -95,17 +95,5 @@ impl Milli {
         ensures { λ r. ⌜ r ≡ self .0 ⌝ }
     {
         self.0
-    }
-}
-
-pub impl Quantity for Milli as MilliQuantity {
-    ghost amount = { λ x. x .0 };
-
-    fn of(n: u32) -> Milli {
-        Milli::from_milli(n)
-    }
-
-    fn get(self) -> u32 {
-        self.milli()
     }
 }

@@ -59,7 +59,7 @@ impl Section {
         if self.figures.curve == 0 {
             return 100 * self.figures.gradient;
         }
-        self.bent(bend_down(self.figures.curve, self.run()))
+        self.with_curve(curve_down(self.figures.curve, self.length_by_radius()))
     }
 
     fn high_milli(&self) -> i32
@@ -68,19 +68,20 @@ impl Section {
         if self.figures.curve == 0 {
             return (100 * self.figures.gradient).max(0);
         }
-        self.bent(bend_up(self.figures.curve, self.run())).max(0)
+        self.with_curve(curve_up(self.figures.curve, self.length_by_radius()))
+            .max(0)
     }
 
     // The grade of the gradient and of what the curve adds to it.
-    fn bent(&self, bend: i32) -> i32
-        requires { ⌜ pos 0 ≤ℤ bend ⌝ ∗ ⌜ bend ≤ℤ pos 7000 ⌝ }
-        ensures { λ r. ⌜ r ≡ pos 100 *ℤ now (self .entry) .figures .gradient +ℤ bend ⌝ }
+    fn with_curve(&self, curve: i32) -> i32
+        requires { ⌜ pos 0 ≤ℤ curve ⌝ ∗ ⌜ curve ≤ℤ pos 7000 ⌝ }
+        ensures { λ r. ⌜ r ≡ pos 100 *ℤ now (self .entry) .figures .gradient +ℤ curve ⌝ }
     {
-        100 * self.figures.gradient + bend
+        100 * self.figures.gradient + curve
     }
 
     // The length of a curved section times the radius of its curve.
-    fn run(&self) -> u64
+    fn length_by_radius(&self) -> u64
         requires { ⌜ (now self .figures .curve ≡ 0 → ⊥) ⌝ }
         ensures value { λ r. ⌜ r ≡ now (self .entry) .figures .metres * now (self .entry) .figures .radius ⌝ }
         ensures wide { λ r. ⌜ 100 * now (self .entry) .figures .curve ≤ r ⌝ }
@@ -90,21 +91,21 @@ impl Section {
 }
 
 // What a curve adds to the grade, rounded down.
-fn bend_down(curve: u32, run: u64) -> i32
-    requires { ⌜ (curve ≡ 0 → ⊥) ⌝ ∗ ⌜ 100 * curve ≤ run ⌝ }
-    ensures value { λ r. ⌜ r ≡ pos (rounded-down (ratio (700000 * curve) run)) ⌝ }
+fn curve_down(curve: u32, by_radius: u64) -> i32
+    requires { ⌜ (curve ≡ 0 → ⊥) ⌝ ∗ ⌜ 100 * curve ≤ «by_radius» ⌝ }
+    ensures value { λ r. ⌜ r ≡ pos (rounded-down (ratio (700000 * curve) «by_radius»)) ⌝ }
     ensures small { λ r. ⌜ r ≤ℤ pos 7000 ⌝ }
 {
-    (700_000 * u64::from(curve) / run) as i32
+    (700_000 * u64::from(curve) / by_radius) as i32
 }
 
 // What a curve adds to the grade, rounded up.
-fn bend_up(curve: u32, run: u64) -> i32
-    requires { ⌜ (curve ≡ 0 → ⊥) ⌝ ∗ ⌜ 100 * curve ≤ run ⌝ }
-    ensures value { λ r. ⌜ r ≡ pos (rounded-up (ratio (700000 * curve) run)) ⌝ }
+fn curve_up(curve: u32, by_radius: u64) -> i32
+    requires { ⌜ (curve ≡ 0 → ⊥) ⌝ ∗ ⌜ 100 * curve ≤ «by_radius» ⌝ }
+    ensures value { λ r. ⌜ r ≡ pos (rounded-up (ratio (700000 * curve) «by_radius»)) ⌝ }
     ensures small { λ r. ⌜ r ≤ℤ pos 7000 ⌝ }
 {
-    (700_000 * u64::from(curve)).div_ceil(run) as i32
+    (700_000 * u64::from(curve)).div_ceil(by_radius) as i32
 }
 
 // Length 1 to 20,000, gradient -400 to 400, curve no longer than the section and lawful, stop mark 0 or 1.

@@ -1,7 +1,6 @@
 ghost use Prim.Native.Nat.{_*_, _^_, _≤_};
 ghost use Rattle.reckoning.specs.Approaches.{approach-of};
 ghost use Rattle.reckoning.specs.Steps.{step-of};
-ghost use Rattle.rules.specs.Kind.{kind};
 ghost use Rattle.rules.specs.Stop.{brake-force, drag-in, train-drag, holding-force, delay-run};
 ghost use mathlib.Core.Path.{_≡_};
 use super::Approach;
@@ -69,19 +68,19 @@ impl Approach {
         ensures { λ r. ⌜ r ≡ holding-force (approach-of (now (self .entry)) (S·StockLaws .meaning (now (stock .entry)))) (step-of step) ⌝ }
     {
         self.lowest
-            .holding(self.braking(stock, step), self.drag(stock, step))
+            .holding_milli(self.braking(stock, step), self.drag(stock, step))
     }
 
     // The distance in millimetres that the train runs before the brakes hold.
     pub(crate) fn delay<K: BrakeKind>(&self, v: Speed, brake: Milli) -> u64
         requires { ⌜ 1 ≤ brake .0 ⌝ }
-        ensures value { λ r. ⌜ r ≡ delay-run (kind (K·BrakeKind .seconds) (K·BrakeKind .slope)) (v .tenths) (brake .0) (now (self .entry) .lowest .0) ⌝ }
+        ensures value { λ r. ⌜ r ≡ delay-run (K·BrakeKind .meaning) (v .tenths) (brake .0) (now (self .entry) .lowest .0) ⌝ }
         ensures small { λ r. ⌜ r ≤ 1600 * (180000 * 2 ^ 32) ⌝ }
     {
-        let (seconds, slope) = K::constants();
+        let (seconds, extra) = K::constants();
         let brake = u64::from(brake.milli());
-        let fall = u64::from(self.lowest.fall());
-        let parts = 1000 * u64::from(seconds) * brake + 1000 * u64::from(slope) * fall;
+        let fall = u64::from(self.lowest.fall().milli());
+        let parts = 1000 * u64::from(seconds) * brake + 1000 * u64::from(extra) * fall;
         (u64::from(v.tenths()) * parts).div_ceil(36 * brake)
     }
 }

@@ -1,5 +1,4 @@
 ghost use Rattle.reckoning.specs.Approaches.{approach-of};
-ghost use Rattle.rules.specs.Kind.{kind};
 ghost use Rattle.rules.specs.Questions.{stopping, stop-figures};
 ghost use Rattle.rules.specs.Refusals.{first-no, decide, stop-reply};
 ghost use mathlib.Core.Path.{_≡_};
@@ -17,7 +16,7 @@ impl Approach {
         stock: &S,
         v: Speed,
     ) -> Result<(u32, u32, u32), Refusal>
-        ensures { λ r. ⌜ stop-reply r ≡ decide (first-no (stopping (kind (K·BrakeKind .seconds) (K·BrakeKind .slope)) (approach-of (now (self .entry)) (S·StockLaws .meaning (now (stock .entry)))) (v .tenths))) (stop-figures (kind (K·BrakeKind .seconds) (K·BrakeKind .slope)) (approach-of (now (self .entry)) (S·StockLaws .meaning (now (stock .entry)))) (v .tenths)) ⌝ }
+        ensures { λ r. ⌜ stop-reply r ≡ decide (first-no (stopping (K·BrakeKind .meaning) (approach-of (now (self .entry)) (S·StockLaws .meaning (now (stock .entry)))) (v .tenths))) (stop-figures (K·BrakeKind .meaning) (approach-of (now (self .entry)) (S·StockLaws .meaning (now (stock .entry)))) (v .tenths)) ⌝ }
     {
         let brake = self.brake_force(stock, v);
         if brake.milli() < 1000 {

@@ -94,7 +94,7 @@ impl Sheet {
     }
 
     /// How many vehicles the train has.
-    pub fn vehicles(&self) -> usize
+    pub fn vehicle_count(&self) -> usize
         ensures { λ r. ⌜ r ≡ length (book-of (now (self .entry)) .vehicles) ⌝ }
     {
         self.consist.len()
@@ -108,7 +108,7 @@ impl Sheet {
     }
 
     /// How many sections the line has.
-    pub fn sections(&self) -> usize
+    pub fn section_count(&self) -> usize
         ensures { λ r. ⌜ r ≡ length (book-of (now (self .entry)) .sections) ⌝ }
     {
         self.line.len()

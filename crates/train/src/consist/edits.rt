@@ -78,12 +78,7 @@ impl Consist {
         ensures held { λ r. ⌜ vehicles-of (now (self .exit)) ≡ unless (told r) (with-brake false (vehicles-of (now (self .entry))) k) (vehicles-of (now (self .entry))) ⌝ }
         ensures framed { λ _. ⌜ OnlyBrakeOf k (vehicles-of (now (self .entry))) (vehicles-of (now (self .exit))) ⌝ }
     {
-        if k >= self.vehicles.len() {
-            return Err(Refusal::NoSuchVehicle);
-        }
-        let vehicle = &mut self.vehicles[k];
-        vehicle.cut_out();
-        Ok(())
+        self.set_brake(k, false)
     }
 
     /// Restores the brake of vehicle k, and of no other.
@@ -92,11 +87,20 @@ impl Consist {
         ensures held { λ r. ⌜ vehicles-of (now (self .exit)) ≡ unless (told r) (with-brake true (vehicles-of (now (self .entry))) k) (vehicles-of (now (self .entry))) ⌝ }
         ensures framed { λ _. ⌜ OnlyBrakeOf k (vehicles-of (now (self .entry))) (vehicles-of (now (self .exit))) ⌝ }
     {
+        self.set_brake(k, true)
+    }
+
+    // Puts the brake of vehicle k in or cuts it out: that vehicle is lent, and the others are not touched.
+    fn set_brake(&mut self, k: usize, on: bool) -> Result<(), Refusal>
+        ensures answer { λ r. ⌜ told r ≡ first-no (vehicle-there (vehicles-of (now (self .entry))) k) ⌝ }
+        ensures held { λ r. ⌜ vehicles-of (now (self .exit)) ≡ unless (told r) (with-brake on (vehicles-of (now (self .entry))) k) (vehicles-of (now (self .entry))) ⌝ }
+        ensures framed { λ _. ⌜ OnlyBrakeOf k (vehicles-of (now (self .entry))) (vehicles-of (now (self .exit))) ⌝ }
+    {
         if k >= self.vehicles.len() {
             return Err(Refusal::NoSuchVehicle);
         }
         let vehicle = &mut self.vehicles[k];
-        vehicle.restore();
+        vehicle.set_brake(on);
         Ok(())
     }
 }

@@ -1,7 +1,6 @@
-ghost use Rattle.rules.specs.Book.{is-locomotive};
+ghost use Rattle.rules.specs.Book.{vehicle, is-locomotive};
 ghost use Rattle.rules.specs.Questions.{lawful-vehicle};
-ghost use Rattle.train.specs.Vehicles.{vehicle-of, braked-as, newly-coupled};
-ghost use mathlib.Core.Bool.{true, false};
+ghost use Rattle.train.specs.Vehicles.{vehicle-of, newly-coupled};
 ghost use mathlib.Core.Path.{_≡_};
 ghost use Rattle.std.specs.Options.{mapped};
 use super::Vehicle;
@@ -43,18 +42,11 @@ impl Vehicle {
         self.figures.letter == 'L'
     }
 
-    /// Cuts the brake out, whatever it was before.
-    pub fn cut_out(&mut self)
-        ensures { λ _. ⌜ vehicle-of (now (self .exit)) ≡ braked-as false (vehicle-of (now (self .entry))) ⌝ }
+    // Puts the brake in or cuts it out, whatever it was before.
+    pub(crate) fn set_brake(&mut self, on: bool)
+        ensures { λ _. ⌜ vehicle-of (now (self .exit)) ≡ vehicle (vehicle-of (now (self .entry)) .figures) on ⌝ }
     {
-        self.braked = false;
-    }
-
-    /// Restores the brake, whatever it was before.
-    pub fn restore(&mut self)
-        ensures { λ _. ⌜ vehicle-of (now (self .exit)) ≡ braked-as true (vehicle-of (now (self .entry))) ⌝ }
-    {
-        self.braked = true;
+        self.braked = on;
     }
 }
 

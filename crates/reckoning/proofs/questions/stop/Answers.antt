@@ -4,7 +4,6 @@ use native.Mathlib.Omega.{arith}
 use denote.Ref.{now}
 use Rattle.std.specs.declared.option.Option.{Option}
 use Rattle.sheet.specs.Sheets.{book-of}
-use Rattle.rules.specs.Kind.{kind}
 use Rattle.rules.specs.Questions.{stopping, stop-figures}
 use Rattle.rules.specs.Refusals.{Reply, first-no, decide}
 use Rattle.rules.specs.Stop.{Approach, approach-at}
@@ -14,7 +13,7 @@ use Rattle.reckoning.proofs.questions.stop.Needs as need
 
 pub returns : need.returns
 returns g c =
-    let k = kind (g .K·BrakeKind .seconds) (g .K·BrakeKind .slope) in
+    let k = g .K·BrakeKind .meaning in
     let s = g .S·StockLaws .meaning (now (c .args .stock)) in
     let b = book-of (now (c .args .sheet)) in
     let a = approach-at s b (c .args .place) (c .args .factor) in

@@ -20,8 +20,8 @@ returns-then-self-eq0 c =
 pub returns : need.returns
 returns c =
     let f = c .args .self .now .figures in
-    let some : 1 ≤ f .metres * f .radius = omega (arith, c .if-self-eq0 .left, c .run .ensures .wide, c .run .ensures .value) in
-    let bend : c .bend-up .result ≡ pos (rounded-up (ratio (700000 * f .curve) (f .metres * f .radius))) = c .bend-up .ensures .value ∙ ap (λ t. pos (rounded-up (ratio (700000 * f .curve) t))) (c .run .ensures .value) in
-    let sum : c .bent .result ≡ pos 100 *ℤ f .gradient +ℤ pos (rounded-up (ratio (700000 * f .curve) (f .metres * f .radius))) = omega (arith, ints, bend, c .bent .ensures) in
-    let high : c .max-2 .result ≡ maxZ (c .bent .result) (pos 0) = omega (arith, ints, clamps, c .max-2 .ensures .value) in
+    let some : 1 ≤ f .metres * f .radius = omega (arith, c .if-self-eq0 .left, c .length-by-radius .ensures .wide, c .length-by-radius .ensures .value) in
+    let bend : c .curve-up .result ≡ pos (rounded-up (ratio (700000 * f .curve) (f .metres * f .radius))) = c .curve-up .ensures .value ∙ ap (λ t. pos (rounded-up (ratio (700000 * f .curve) t))) (c .length-by-radius .ensures .value) in
+    let sum : c .with-curve .result ≡ pos 100 *ℤ f .gradient +ℤ pos (rounded-up (ratio (700000 * f .curve) (f .metres * f .radius))) = omega (arith, ints, bend, c .with-curve .ensures) in
+    let high : c .max-2 .result ≡ maxZ (c .with-curve .result) (pos 0) = omega (arith, ints, clamps, c .max-2 .ensures .value) in
     toZ-ofZ w32 (c .max-2 .result) (search needs) ∙ high ∙ ap (λ t. maxZ t (pos 0)) sum ∙ sym (high-curved f (c .if-self-eq0 .left) some)

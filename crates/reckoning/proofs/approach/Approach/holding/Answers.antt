@@ -5,4 +5,4 @@ use Rattle.reckoning.proofs.approach.Approach.holding.Needs as need
 
 pub returns : need.returns
 unfolding holding-force
-returns g c = omega (arith, ints, c .braking .ensures, c .drag .ensures, c .holding .ensures)
+returns g c = omega (arith, ints, c .braking .ensures, c .drag .ensures, c .holding-milli .ensures)

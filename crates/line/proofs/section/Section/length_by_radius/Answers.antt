@@ -1,7 +1,7 @@
 use borrow.Author.Needs.{needs}
 use native.Mathlib.Omega.{arith}
 use Rattle.rules.proofs.Grades.{curve-says, run-wide}
-use Rattle.line.proofs.section.Section.run.Needs as need
+use Rattle.line.proofs.section.Section.length_by_radius.Needs as need
 
 pub returns : need.returns
 returns c =
