@@ -2,6 +2,7 @@
 """The figures of the programs, worked out from the rules with exact fractions and apart from the product's code.
 
     tools/expected.py inspection | diff - crates/inspection/stdout
+    tools/expected.py refusals   | diff - crates/refusals/stdout
     tools/expected.py figures    | diff - crates/figures/stdout
 """
 import sys
@@ -192,7 +193,7 @@ def inspection():
     ask("F", 0, 600, 7)
 
 
-# ---- the program `figures`
+# ---- the programs `refusals` and `figures`
 
 def train(*vehicles):
     s = Sheet()
@@ -207,10 +208,11 @@ def sample(i):
     return s
 
 
-def figures():
-    def tell(label, f, *args):
-        print(f"{label}: {outcome(f, *args)}")
+def tell(label, f, *args):
+    print(f"{label}: {outcome(f, *args)}")
 
+
+def refusals():
     print("vehicles")
     s = Sheet()
     for v in [("X", 1000, 400), ("l", 1000, 400), ("L", 49, 0), ("W", 2001, 0), ("W", 600, 601),
@@ -240,15 +242,27 @@ def figures():
     tell("append section 199", s.append, 100, 0, 0, 0, 0)
     tell("append section 200", s.append, 100, 0, 0, 0, 0)
 
-    print("grades, low and high")
-    for a in [(500, 0, 250, 300, 0), (500, -7, 250, 300, 0), (500, -35, 250, 300, 0), (500, 12, 0, 0, 0), (500, -12, 0, 0, 0)]:
-        print("section " + " ".join(map(str, a)) + f": {floor(grade(a))} {max(0, ceil(grade(a)))}")
-
     print("braking distances")
     s = Sheet()
     for metres in (399, 400, 4000, 4001):
         tell(f"set {metres}", s.set_distance, metres)
 
+    print("laws")
+    for a in [(100_000_000, 1_000_000, 10_000), (100_000_001, 0, 0), (0, 1_000_001, 0), (0, 0, 10_001)]:
+        tell("quadratic drag " + " ".join(map(str, a)), quadratic, *a)
+
+    print("stops")
+    for place, v, g in [(4_000_001, 100, 10), (0, 1601, 10), (0, 100, 0), (0, 100, 11), (2000, 100, 10), (2001, 100, 10)]:
+        tell(f"stop {place} {v} {g}", sample(0).stop, "F", place, v, g)
+    s = sample(-400)
+    s.brake(0, False)
+    tell("gradient -400, locomotive cut out", s.stop, "F", 0, 100, 10)
+    s.brake(1, False)
+    tell("gradient -400, both cut out", s.stop, "F", 0, 100, 10)
+    tell("speed 1600", sample(0).stop, "F", 0, 1600, 10)
+
+
+def figures():
     print("laws, below and above")
     for v in (0, 500, 1600):
         print(f"cast iron at {v}: {floor(cast_iron(v))} {ceil(cast_iron(v))}")
@@ -256,32 +270,26 @@ def figures():
         print(f"wagon drag at {v}, {q}: {floor(wagon_drag(v, q))} {ceil(wagon_drag(v, q))}")
     for v in (0, 123, 500):
         print(f"DF4 at {v}: {floor(df4(v, 600))} {ceil(df4(v, 600))}")
-    for a in [(100_000_000, 1_000_000, 10_000), (100_000_001, 0, 0), (0, 1_000_001, 0), (0, 0, 10_001)]:
-        tell("quadratic drag " + " ".join(map(str, a)), quadratic, *a)
 
     print("kinds of brake, T and c")
     for k in "FPEHJ":
         print(f"{k}: {KINDS[k][0]} {KINDS[k][1]}")
 
-    print("questions out of range")
-    for place, v, g in [(4_000_001, 100, 10), (0, 1601, 10), (0, 100, 0), (0, 100, 11)]:
-        tell(f"stop {place} {v} {g}", sample(0).stop, "F", place, v, g)
+    print("grades, low and high")
+    for a in [(500, 0, 250, 300, 0), (500, -7, 250, 300, 0), (500, -35, 250, 300, 0), (500, 12, 0, 0, 0), (500, -12, 0, 0, 0)]:
+        print("section " + " ".join(map(str, a)) + f": {floor(grade(a))} {max(0, ceil(grade(a)))}")
 
     print("stops of the example train")
     for i, v in [(-100, 100), (0, 100), (100, 100), (0, 0)]:
         tell(f"gradient {i}, speed {v}", sample(i).stop, "F", 0, v, 10)
-    s = sample(-400)
-    s.brake(0, False)
-    tell("gradient -400, locomotive cut out", s.stop, "F", 0, 100, 10)
-    s.brake(1, False)
-    tell("gradient -400, both cut out", s.stop, "F", 0, 100, 10)
-    tell("speed 1600", sample(0).stop, "F", 0, 1600, 10)
     for k in "FPEHJ":
         tell(f"kind {k}, gradient -20, speed 350", sample(-20).stop, k, 0, 350, 10)
 
-    print("the end of the window")
-    tell("window to the line's end", sample(0).stop, "F", 2000, 100, 10)
-    tell("one metre more", sample(0).stop, "F", 2001, 100, 10)
+    print("the ends of the window")
+    s = sample(-150)
+    s.append(1001, 0, 0, 0, 0)
+    tell("from the end of the fall", s.stop, "F", 3000, 100, 10)
+    tell("one metre behind it, to the line's end", s.stop, "F", 3001, 100, 10)
 
     print("long stops")
     for place, v in [(500, 730), (499, 730), (499, 1600), (3501, 730), (500, 551), (500, 550)]:
@@ -296,4 +304,4 @@ def figures():
     tell("locomotive alone, speed 500", s.stop, "E", 100, 500, 6)
 
 
-{"inspection": inspection, "figures": figures}[sys.argv[1]]()
+{"inspection": inspection, "refusals": refusals, "figures": figures}[sys.argv[1]]()

@@ -8,9 +8,6 @@ use laws::QuadraticLaw;
 use laws::WagonDrag;
 use laws::WagonLaw;
 use laws::constants_of;
-use report::Outcome;
-use report::OutcomeDisplay;
-use rules::Refusal;
 use std::io;
 use units::Gross;
 use units::Speed;
@@ -49,25 +46,6 @@ pub fn drags(rt: &LibcRuntime) -> io::Result<()> {
 // Both values of a drag, in milli.
 fn both<D: DragLaw>(drag: &D, v: Speed, q: Gross) -> (u32, u32) {
     (drag.below(v, q).milli(), drag.above(v, q).milli())
-}
-
-/// Quadratic drags inside and outside their ranges.
-pub fn makers(rt: &LibcRuntime) -> io::Result<()> {
-    for (a, b, c) in [
-        (100_000_000, 1_000_000, 10_000),
-        (100_000_001, 0, 0),
-        (0, 1_000_001, 0),
-        (0, 0, 10_001),
-    ] {
-        let outcome = Outcome(made(a, b, c));
-        println!(rt, "quadratic drag {a} {b} {c}: {outcome}")?;
-    }
-    Ok(())
-}
-
-fn made(a: u32, b: u32, c: u32) -> Result<(), Refusal> {
-    let _drag = QuadraticDrag::new(a, b, c)?;
-    Ok(())
 }
 
 /// The constants of the five kinds of brake.

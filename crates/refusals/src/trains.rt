@@ -1,9 +1,9 @@
-use crate::tell::tell;
-use crate::tell::tell_stop;
 use laws::Freight;
 use laws::FreightKind;
 use report::Outcome;
 use report::OutcomeDisplay;
+use report::tell;
+use report::tell_stop;
 use rules::VehicleFigures;
 use sheet::Sheet;
 use std::io;
