@@ -1,8 +1,9 @@
 -- The stop question: how far a train runs from a place, at a speed, by a factor of full braking, until it stands.
 -- Speeds are in tenths of km/h, forces in milli, distances in millimetres.
-use Prim.Native.Nat.{ℕ, zero, suc, _+_, _-_, _*_, _/_, min, max}
+use Prim.Native.Nat.{ℕ, zero, suc, _+_, _-_, _*_, _/_, _<_, min, max}
 use mathlib.Core.Bool.{Bool, true, _&&_}
 use mathlib.Core.List.{List, [], _∷_, map}
+use mathlib.Core.Logic.{_↔_}
 use lib.IntN.{ℤ, pos, _+ℤ_}
 use lib.Signed.{leZ}
 use Rattle.rules.specs.Fraction.{natural-of, fall-of}
@@ -52,6 +53,10 @@ edge k = min (100 * k) (250 + 50 * k)
 -- how many edges lie below v
 abbrev pub edges-below : ℕ → ℕ
 edges-below v = max ((v + 99) / 100) ((v - 250 + 49) / 50)
+
+-- the edges rise, and those below v are the lowest `edges-below v`
+abbrev pub EdgesAreCounted : Type 0
+EdgesAreCounted = (v k : ℕ) → (edge k < v ↔ k < edges-below v) × (edge k < edge (k + 1))
 
 -- from a speed down to the next lower edge
 pub record Step : Type 0 where

@@ -2,6 +2,7 @@
 // refusals that every crate above shares stand here.
 pub mod figures;
 pub mod refusal;
+pub mod theorems;
 
 pub use figures::SectionFigures;
 pub use figures::VehicleFigures;
