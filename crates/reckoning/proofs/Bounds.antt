@@ -16,15 +16,6 @@ pressed-small g k h l = mul-le-mul h l
 pub pressed-within : (g k m : ℕ) → g ≤ 10 → k ≤ m → g * k ≤ 10 * m
 pressed-within g k m h l = mul-le-mul h l
 
-pub weighed-small : (m f : ℕ) → f ≤ 4294967295 → m * f ≤ 4294967295 * m
-weighed-small m f h = omega (arith, mul-le-mul-right m h)
-
--- a mean is at most the bound of its parts
-pub mean-small : (a b p q : ℕ) → 1 ≤ p → a ≤ 4294967295 * p → b ≤ 4294967295 * q → (a + b) / (p + q) ≤ 4294967295
-mean-small a b p q some h k =
-    let e : (a + b) / (p + q) < 4294967296 = div-lt-iff-lt-mul {k = p + q} (omega arith) .1 (omega arith) in
-    omega arith
-
 pub parts-small : (t c b d : ℕ) → t ≤ 60 → c ≤ 2 * t → b < 4294967296 → d < 4294967296 → 1000 * t * b + 1000 * c * d ≤ 180000 * 4294967296
 parts-small t c b d ht hc hb hd =
     let p : 1000 * t ≤ 60000 = omega arith in

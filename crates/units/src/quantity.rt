@@ -1,4 +1,4 @@
-ghost use Prim.Native.Nat.{ℕ};
+ghost use Prim.Native.Nat.{ℕ, _+_, _*_, _/_, _≤_};
 ghost use mathlib.Core.Path.{_≡_};
 
 /// A number that carries its unit, for what stands over any unit: plain numbers go in by `of` and out by `get` alone.
@@ -96,4 +96,24 @@ impl Milli {
     {
         self.0
     }
+
+    /// The mean of two specific forces by the masses that they act on, rounded down; 0 without any mass.
+    pub fn mean(self, mass: u32, other: Milli, beside: u32) -> Milli
+        ensures { λ r. ⌜ r .0 ≡ (mass * self .0 + beside * other .0) / (mass + beside) ⌝ }
+    {
+        let whole = u64::from(mass) + u64::from(beside);
+        if whole == 0 {
+            return Milli(0);
+        }
+        let sum = weighed(mass, self) + weighed(beside, other);
+        Milli((sum / u128::from(whole)) as u32)
+    }
+}
+
+// A specific force times the mass that it acts on.
+fn weighed(mass: u32, force: Milli) -> u128
+    ensures value { λ r. ⌜ r ≡ mass * force .0 ⌝ }
+    ensures small { λ r. ⌜ r ≤ 4294967295 * mass ⌝ }
+{
+    u128::from(mass) * u128::from(force.0)
 }

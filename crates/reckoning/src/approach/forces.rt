@@ -29,31 +29,25 @@ impl Approach {
     pub(crate) fn drag<S: StockLaws>(&self, stock: &S, step: Step) -> Milli
         ensures { λ r. ⌜ r .0 ≡ train-drag (approach-of (now (self .entry)) (S·StockLaws .meaning (now (stock .entry)))) (step-of step) ⌝ }
     {
-        let held = self.hauling_drag(stock, step) + self.trailing_drag(stock, step);
-        let mass = u64::from(self.hauling + self.trailing);
-        Milli::from_milli((held / mass) as u32)
+        self.coasting_drag(stock, step)
+            .mean(self.hauling, self.wagon_drag(stock, step), self.trailing)
     }
 
-    // The drag of the coasting locomotives, times their mass.
-    fn hauling_drag<S: StockLaws>(&self, stock: &S, step: Step) -> u64
-        ensures value { λ r. ⌜ r ≡ now (self .entry) .hauling * drag-in (S·StockLaws .meaning (now (stock .entry)) .coasting) (step-of step) (now (self .entry) .gross .tenths) ⌝ }
-        ensures small { λ r. ⌜ r ≤ 4294967295 * now (self .entry) .hauling ⌝ }
+    // The drag of a coasting locomotive in a step, at its lower speed.
+    fn coasting_drag<S: StockLaws>(&self, stock: &S, step: Step) -> Milli
+        ensures { λ r. ⌜ r .0 ≡ drag-in (S·StockLaws .meaning (now (stock .entry)) .coasting) (step-of step) (now (self .entry) .gross .tenths) ⌝ }
     {
-        weighed(
-            self.hauling,
-            stock.coasting_below(step.bottom(), self.gross),
-        )
+        stock.coasting_below(step.bottom(), self.gross)
     }
 
-    // The drag of the wagons, times their mass; without wagons their law is not read.
-    fn trailing_drag<S: StockLaws>(&self, stock: &S, step: Step) -> u64
-        ensures value { λ r. ⌜ r ≡ now (self .entry) .trailing * drag-in (S·StockLaws .meaning (now (stock .entry)) .wagon) (step-of step) (now (self .entry) .gross .tenths) ⌝ }
-        ensures small { λ r. ⌜ r ≤ 4294967295 * now (self .entry) .trailing ⌝ }
+    // The drag of the wagons in a step, as far as there are any: without wagons their law is not read.
+    fn wagon_drag<S: StockLaws>(&self, stock: &S, step: Step) -> Milli
+        ensures { λ r. ⌜ now (self .entry) .trailing * r .0 ≡ now (self .entry) .trailing * drag-in (S·StockLaws .meaning (now (stock .entry)) .wagon) (step-of step) (now (self .entry) .gross .tenths) ⌝ }
     {
         if self.trailing == 0 {
-            return 0;
+            return Milli::from_milli(0);
         }
-        weighed(self.trailing, stock.wagon_below(step.bottom(), self.gross))
+        stock.wagon_below(step.bottom(), self.gross)
     }
 
     // The brake force in a step, at its upper speed.
@@ -83,12 +77,4 @@ impl Approach {
         let parts = 1000 * u64::from(seconds) * brake + 1000 * u64::from(extra) * fall;
         (u64::from(v.tenths()) * parts).div_ceil(36 * brake)
     }
-}
-
-// A specific force times the mass that it acts on.
-fn weighed(mass: u32, force: Milli) -> u64
-    ensures value { λ r. ⌜ r ≡ mass * force .0 ⌝ }
-    ensures small { λ r. ⌜ r ≤ 4294967295 * mass ⌝ }
-{
-    u64::from(mass) * u64::from(force.milli())
 }
