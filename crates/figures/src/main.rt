@@ -1,12 +1,15 @@
-// Checked figures: kinds of brake, grades at known places, and stops from one step to many.
-mod kinds;
+// Checked figures: laws, kinds of brake and grades at known places, and stops from one step to many.
+#![tactic(auto)]
+mod laws_read;
 mod lines;
 mod stops;
 
 use std::io;
 
 fn main(rt: HostRuntime) -> io::Result<()> {
-    kinds::constants(&rt)?;
+    laws_read::friction(&rt)?;
+    laws_read::drags(&rt)?;
+    laws_read::kinds(&rt)?;
     lines::grades(&rt)?;
     stops::example_train(&rt)?;
     stops::by_kind(&rt)?;

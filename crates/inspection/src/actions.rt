@@ -1,10 +1,10 @@
 use crate::show::show_sheet;
+use laws::BrakeKind;
 use reckoning::stop;
 use report::{Outcome, StopAnswer, diesel_freight};
 use rules::{SectionFigures, VehicleFigures};
 use sheet::Sheet;
 use std::io;
-use stock::BrakeKind;
 
 /// Couples a vehicle at the rear.
 pub fn couple(
@@ -81,7 +81,7 @@ pub fn ask<K: BrakeKind>(
     speed: u32,
     factor: u32,
 ) -> io::Result<()> {
-    let answer = StopAnswer(stop::<K, stock::stock::Stock<_, _, _>>(
+    let answer = StopAnswer(stop::<K, laws::stock::Stock<_, _, _>>(
         sheet,
         &diesel_freight(),
         place,

@@ -1,13 +1,14 @@
 // One train made up, inspected and asked for its stopping distance: every action is printed with its outcome, a refused
 // one with its number, and the sheet as its getters tell it after each edit.
+#![tactic(auto)]
 mod actions;
 mod show;
 
 use actions::{append, ask, couple, cut_out, lift, restore, set_distance, uncouple};
+use laws::{Freight, FreightByHand, Passenger};
 use sheet::Sheet;
 use show::show_sheet;
 use std::io;
-use stock::{Freight, FreightByHand, Passenger};
 
 fn main(rt: HostRuntime) -> io::Result<()> {
     let mut sheet = Sheet::new(rt.alloc())?;

@@ -14,9 +14,9 @@ pub wagon_rises : (v w q : ℕ) → v ≤ w → AtMost (wagon_drag v q) (wagon_d
 wagon_rises v w q h = omega (arith, mul-le-mul_left q h)
 
 -- it is at most 1,000,000 milli
-pub quadratic_cap : (a b c v : ℕ) → QuadraticRange a b c → v ≤ 1600 → (quadratic_drag a b c v).num ≤ 100000000000
-quadratic_cap a b c v lawful h =
+pub quadratic_cap : (a b c v q : ℕ) → QuadraticRange a b c → v ≤ 1600 → (quadratic_drag a b c v q).num ≤ 100000000000
+quadratic_cap a b c v q lawful h =
     omega (arith, mul-le-mul lawful.1 h, mul-le-mul lawful.2 (mul-le-mul h h))
 
-pub quadratic_rises : (a b c v w : ℕ) → v ≤ w → AtMost (quadratic_drag a b c v) (quadratic_drag a b c w)
-quadratic_rises a b c v w h = omega (arith, mul-le-mul_left b h, mul-le-mul_left c (mul-le-mul h h))
+pub quadratic_rises : (a b c v w q : ℕ) → v ≤ w → AtMost (quadratic_drag a b c v q) (quadratic_drag a b c w q)
+quadratic_rises a b c v w q h = omega (arith, mul-le-mul_left b h, mul-le-mul_left c (mul-le-mul h h))

@@ -1,2 +1,3 @@
 pub mod Exacts
 pub mod Formulas
+pub mod Kinds

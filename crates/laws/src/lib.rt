@@ -1,14 +1,24 @@
-// The laws of friction, pull and drag: what every law keeps, and the laws that are given by a formula.
+// The laws of a train: friction, pull and drag, its kind of brake, and the five laws of a stock together.
+#![tactic(auto)]
 pub mod adhesion;
-pub mod cast_iron;
+pub mod blocks;
 pub mod composite;
 pub mod drags;
 pub mod exact;
+pub mod kind;
 pub mod law;
+pub mod pull;
+pub mod stock;
 
 pub use adhesion::AdhesionPull;
-pub use cast_iron::CastIron;
+pub use blocks::CastIron;
 pub use composite::Composite;
 pub use drags::{QuadraticDrag, WagonDrag};
 pub use exact::ExactValue;
+pub use kind::{
+    BrakeKind, ElectroPneumatic, Freight, FreightByHand, KindLetter, Passenger, PassengerByHand,
+    constants_of,
+};
 pub use law::{DragLaw, FallingLaw};
+pub use pull::NoPull;
+pub use stock::{Locomotive, LocomotiveLaws, Stock, StockLaws};

@@ -1,4 +1,5 @@
 // Layers over laws: a share of a law, two laws blended, and the lesser of two falling laws, each a law again.
+#![tactic(auto)]
 pub mod blend;
 pub mod lesser;
 pub mod scale;

@@ -1,4 +1,5 @@
 // Friction compared with published values.
+#![tactic(auto)]
 
 #[cfg(test)]
 mod tests {

@@ -1,4 +1,5 @@
 // The pull of a locomotive by a table of points.
+#![tactic(auto)]
 pub mod breaks;
 pub mod table;
 

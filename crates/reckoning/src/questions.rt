@@ -4,9 +4,9 @@ ghost use Rattle.sheet.specs.Sheets.{book_of};
 ghost use Rattle.std.specs.Prelude.{◌≡◌};
 
 use crate::approach::Approach;
+use laws::{BrakeKind, StockLaws};
 use rules::Refusal;
 use sheet::Sheet;
-use stock::{BrakeKind, StockLaws};
 use units::Speed;
 
 /// How far the train of a sheet needs to stop from a place, in metres from the start of the line, at a speed in tenths of

@@ -1,4 +1,6 @@
-// Every refusal of a sheet and a stop with its number, each beside a call that just passes.
+// Every refusal with its number, each beside a call that just passes.
+#![tactic(auto)]
+mod drags;
 mod lines;
 mod stops;
 mod trains;
@@ -11,6 +13,7 @@ fn main(rt: HostRuntime) -> io::Result<()> {
     lines::sections(&rt)?;
     lines::long_line(&rt)?;
     lines::braking_distances(&rt)?;
+    drags::makers(&rt)?;
     stops::out_of_range(&rt)?;
     stops::weak_brakes(&rt)
 }

@@ -1,7 +1,7 @@
+use laws::Freight;
 use reckoning::stop;
 use report::{StopAnswer, diesel_freight, example_sheet, tell_stop};
 use std::io;
-use stock::Freight;
 
 /// Stop questions out of their ranges, and beyond the line.
 pub fn out_of_range(rt: &HostRuntime) -> io::Result<()> {
@@ -15,7 +15,7 @@ pub fn out_of_range(rt: &HostRuntime) -> io::Result<()> {
         (2000, 100, 10),
         (2001, 100, 10),
     ] {
-        let answer = StopAnswer(stop::<Freight, stock::stock::Stock<_, _, _>>(
+        let answer = StopAnswer(stop::<Freight, laws::stock::Stock<_, _, _>>(
             &sheet,
             &diesel_freight(),
             place,

@@ -1,8 +1,8 @@
+use laws::Freight;
 use report::{Outcome, tell, tell_stop};
 use rules::VehicleFigures;
 use sheet::Sheet;
 use std::io;
-use stock::Freight;
 
 /// Vehicles inside and outside their ranges.
 pub fn vehicles(rt: &HostRuntime) -> io::Result<()> {

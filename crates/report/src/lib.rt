@@ -1,4 +1,5 @@
 // How the programs print what a call came to, and the train and the stock that they ask with.
+#![tactic(auto)]
 pub mod outcome;
 pub mod printing;
 pub mod sample;

@@ -22,11 +22,11 @@ AdhesionRange m = (1 ≤ m) × (m ≤ 20000)
 abbrev pub wagon_drag : ℕ → ℕ → Ratio
 wagon_drag v q = ratio (100000 * (v + 650)) (12000 + 55 * q)
 
--- drag by three constants, in milli, the same at every gross mass
-abbrev pub quadratic_drag : ℕ → ℕ → ℕ → ℕ → Ratio
-quadratic_drag a b c v = ratio (100 * a + 10 * (b * v) + c * (v * v)) 100000
+-- drag by three constants, in milli
+abbrev pub quadratic_drag : ℕ → ℕ → ℕ → ℕ → ℕ → Ratio
+quadratic_drag a b c v q = ratio (100 * a + 10 * (b * v) + c * (v * v)) 100000
 
--- the constants that it is given for
+-- their ranges
 abbrev pub QuadraticRange : ℕ → ℕ → ℕ → Type 0
 QuadraticRange a b c = (a ≤ 100000000) × (b ≤ 1000000) × (c ≤ 10000)
 
@@ -40,6 +40,6 @@ df4_b = 29300
 abbrev pub df4_c : ℕ
 df4_c = 178
 
--- its drag, as that of any vehicle at a speed and a gross mass
+-- its drag at a speed and a gross mass
 abbrev pub df4 : ℕ → ℕ → Ratio
-df4 v q = quadratic_drag df4_a df4_b df4_c v
+df4 = quadratic_drag df4_a df4_b df4_c

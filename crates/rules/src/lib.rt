@@ -1,5 +1,7 @@
 // The rules of train reckoning: what the laws, the book and the questions mean stands in specs/, and the figures and
 // refusals that every crate above shares stand here.
+#![tactic(auto)]
+
 pub mod figures;
 pub mod refusal;
 pub mod theorems;

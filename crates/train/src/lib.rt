@@ -1,4 +1,5 @@
 // A train: its vehicles with their brakes, and the sums over them.
+#![tactic(auto)]
 pub mod consist;
 pub mod totals;
 pub mod vehicle;

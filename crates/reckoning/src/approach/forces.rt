@@ -5,7 +5,7 @@ ghost use Rattle.rules.specs.Stop.{brake_force, drag_in, train_drag, holding_for
 
 use super::Approach;
 use crate::step::Step;
-use stock::{BrakeKind, StockLaws};
+use laws::{BrakeKind, StockLaws};
 use units::{BrakeRatio, Milli, Speed};
 
 impl Approach {

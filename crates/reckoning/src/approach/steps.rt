@@ -5,8 +5,8 @@ ghost use Rattle.rules.specs.Stop.{holding_force};
 use super::Approach;
 use crate::step::Step;
 use crate::step::edges::{edge, edges_below};
+use laws::StockLaws;
 use rules::Refusal;
-use stock::StockLaws;
 use units::{Milli, Speed};
 
 impl Approach {

@@ -4,8 +4,8 @@ ghost use Rattle.rules.specs.Refusals.{first_no, decide, stop_reply};
 ghost use Rattle.std.specs.Prelude.{◌≡◌};
 
 use super::Approach;
+use laws::{BrakeKind, StockLaws};
 use rules::Refusal;
-use stock::{BrakeKind, StockLaws};
 use units::Speed;
 
 impl Approach {

@@ -1,13 +1,13 @@
 use Rattle.std.proofs.Common.{◌≤◌, arith}
 use Rattle.rules.specs.Formulas.{quadratic_drag}
 use Rattle.laws.specs.Formulas.{quadratic_cap}
-use Rattle.laws.proofs.drags.QuadraticDrag.exactly.Goals as goal
+use Rattle.laws.proofs.drags.QuadraticDrag.scaled.Goals as goal
 
 -- the whole sum is far below 2 ^ 64
 small : (c : goal.After-from-c)
-    → (quadratic_drag c.from-a.result c.from-b.result c.from-c.result c.from-v.result).num ≤ 100000000000
+    → (quadratic_drag c.from-a.result c.from-b.result c.from-c.result c.from-v.result 0).num ≤ 100000000000
 small c =
-    quadratic_cap c.from-a.result c.from-b.result c.from-c.result c.from-v.result
+    quadratic_cap c.from-a.result c.from-b.result c.from-c.result c.from-v.result 0
     (omega arith, omega arith, omega arith) (omega arith)
 
 pub overflow-mul-result-3 : goal.overflow-mul-result-3
@@ -19,5 +19,5 @@ overflow-add-result c = omega (arith, small c)
 pub overflow-add-result-2 : goal.overflow-add-result-2
 overflow-add-result-2 c = omega (arith, small c)
 
-pub invariant-of-result : goal.invariant-of-result
-invariant-of-result c = (omega arith, (small c, tt))
+pub returns : goal.returns
+returns c = record { value = cc; cap = small c }

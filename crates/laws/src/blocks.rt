@@ -1,28 +1,13 @@
-ghost use Rattle.std.specs.Prelude.{◌≡◌};
-ghost use Rattle.laws.specs.Exacts.{ratio_of};
-ghost use Rattle.rules.specs.Formulas.{cast_iron};
 ghost use Rattle.rules.specs.Ratio.{rounded_down, rounded_up};
+ghost use Rattle.rules.specs.Formulas.{cast_iron};
 ghost use Rattle.std.proofs.Common.{rules};
 
-use crate::exact::ExactValue;
 use crate::law::FallingLaw;
 use units::{Friction, Speed};
 
 /// The friction of cast iron blocks: 270,000 (v + 1,000) / (5 v + 1,000) millionths at v tenths of km/h.
 #[derive(Clone, Copy, Debug)]
 pub struct CastIron;
-
-impl CastIron {
-    fn exactly(self, v: Speed) -> ExactValue
-        ensures { ratio_of result ≡ cast_iron v.tenths }
-    {
-        let v = v.tenths();
-        ExactValue {
-            num: 270_000 * (u64::from(v) + 1000),
-            den: 5 * v + 1000,
-        }
-    }
-}
 
 impl FallingLaw for CastIron {
     type Unit = Friction;
@@ -40,10 +25,12 @@ impl FallingLaw for CastIron {
     ghost falls = { Prim.search rules };
 
     fn below(&self, v: Speed) -> Friction {
-        Friction::from_millionths(self.exactly(v).down())
+        let v = v.tenths();
+        Friction::from_millionths(270_000 * (v + 1000) / (5 * v + 1000))
     }
 
     fn above(&self, v: Speed) -> Friction {
-        Friction::from_millionths(self.exactly(v).up())
+        let v = v.tenths();
+        Friction::from_millionths((270_000 * (v + 1000)).div_ceil(5 * v + 1000))
     }
 }

@@ -1,6 +1,6 @@
 ghost use Rattle.std.specs.Prelude.{◌≡◌};
 ghost use Rattle.rules.specs.Kind.{Kind, LawfulKind, freight, passenger, electro_pneumatic, freight_by_hand, passenger_by_hand};
-ghost use Rattle.stock.specs.Kinds.{kind_by_letter};
+ghost use Rattle.laws.specs.Kinds.{kind_by_letter};
 ghost use Rattle.std.proofs.Common.{rules};
 
 /// A kind of brake by its two constants: before the brakes hold, T + C d / B seconds pass, where d is how steep the fall is
