@@ -1,5 +1,6 @@
 // The laws of a train: friction, pull and drag, its kind of brake, and the five laws of a stock together.
 #![tactic(auto)]
+
 pub mod adhesion;
 pub mod blocks;
 pub mod composite;

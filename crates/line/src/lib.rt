@@ -1,5 +1,6 @@
 // A line: its sections with their grades, and the lowest grade of a stretch.
 #![tactic(auto)]
+
 pub mod section;
 pub mod sections;
 

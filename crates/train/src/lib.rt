@@ -1,5 +1,6 @@
 // A train: its vehicles with their brakes, and the sums over them.
 #![tactic(auto)]
+
 pub mod consist;
 pub mod totals;
 pub mod vehicle;

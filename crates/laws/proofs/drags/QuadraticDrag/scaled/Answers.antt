@@ -10,14 +10,14 @@ small c =
     quadratic_cap c.from-a.result c.from-b.result c.from-c.result c.from-v.result 0
     (omega arith, omega arith, omega arith) (omega arith)
 
-pub overflow-mul-result-3 : goal.overflow-mul-result-3
-overflow-mul-result-3 c = omega (arith, small c)
+pub overflow_mul-result-3 : goal.overflow_mul-result-3
+overflow_mul-result-3 c = omega (arith, small c)
 
-pub overflow-add-result : goal.overflow-add-result
-overflow-add-result c = omega (arith, small c)
+pub overflow_add-result : goal.overflow_add-result
+overflow_add-result c = omega (arith, small c)
 
-pub overflow-add-result-2 : goal.overflow-add-result-2
-overflow-add-result-2 c = omega (arith, small c)
+pub overflow_add-result-2 : goal.overflow_add-result-2
+overflow_add-result-2 c = omega (arith, small c)
 
 pub returns : goal.returns
 returns c = record { value = cc; cap = small c }

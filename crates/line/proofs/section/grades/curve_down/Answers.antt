@@ -3,8 +3,8 @@ use Rattle.std.proofs.lemmas.Int.{ints, to_z_pos}
 use Rattle.rules.proofs.Grades.{bend_small}
 use Rattle.line.proofs.section.grades.curve_down.Goals as goal
 
-pub overflow-cast-result : goal.overflow-cast-result
-overflow-cast-result c =
+pub overflow_cast-result : goal.overflow_cast-result
+overflow_cast-result c =
     let small = bend_small c.args.curve c.args.by-radius c.requires.0 c.requires.1 in
     let same : 700000 * c.from.result / c.args.by-radius ≡ 700000 * c.args.curve / c.args.by-radius = ap (λ t. 700000 * t / c.args.by-radius) c.from.ensures in
     omega (arith, ints)

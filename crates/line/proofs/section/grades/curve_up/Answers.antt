@@ -4,8 +4,8 @@ use Rattle.rules.specs.Ratio.{ratio, rounded_up}
 use Rattle.rules.proofs.Grades.{bend_small}
 use Rattle.line.proofs.section.grades.curve_up.Goals as goal
 
-pub overflow-cast-result : goal.overflow-cast-result
-overflow-cast-result c =
+pub overflow_cast-result : goal.overflow_cast-result
+overflow_cast-result c =
     let small = bend_small c.args.curve c.args.by-radius c.requires.0 c.requires.1 in
     let same : c.div-ceil.result ≡ rounded_up (ratio (700000 * c.args.curve) c.args.by-radius) = c.div-ceil.ensures ∙ ap (λ t. rounded_up (ratio (700000 * t) c.args.by-radius)) c.from.ensures in
     omega (arith, ints)

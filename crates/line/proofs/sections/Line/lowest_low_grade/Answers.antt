@@ -8,8 +8,8 @@ use Rattle.line.proofs.Windows.{lowest_with, grades_left, turn_takes, turn_passe
 use Rattle.line.proofs.sections.Line.lowest_low_grade.Goals as goal
 use Rattle.line.proofs.sections.Line.lowest_low_grade.Goals.{then-meets, else-meets}
 
-pub overflow-add-end : goal.overflow-add-end
-overflow-add-end c =
+pub overflow_add-end : goal.overflow_add-end
+overflow_add-end c =
     omega (arith, c.section-item.result.short, c.deref-section-items.ensures.len, c.args.self.now.few)
 
 pub loop-section-init : goal.loop-section-init

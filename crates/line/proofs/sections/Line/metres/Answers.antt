@@ -3,8 +3,8 @@ use Rattle.line.specs.declared.section.Section.{Section}
 use Rattle.rules.proofs.Tables.{counted_more, counted_all}
 use Rattle.line.proofs.sections.Line.metres.Goals as goal
 
-pub overflow-add-metres : goal.overflow-add-metres
-overflow-add-metres c =
+pub overflow_add-metres : goal.overflow_add-metres
+overflow_add-metres c =
     omega (arith, c.metres-metres.ensures, c.section-item.result.short, c.deref-section-items.ensures.len, c.args.self.now.few)
 
 pub loop-section-init : goal.loop-section-init

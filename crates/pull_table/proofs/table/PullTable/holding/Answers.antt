@@ -8,8 +8,8 @@ use Rattle.pull_table.proofs.table.PullTable.holding.Goals as goal
 copied : {X : Type 0} (xs ys more : List X) → ys ≡ xs → take (length xs) (ys ++ more) ≡ xs
 copied xs ys more same = ap (λ zs. take (length xs) (zs ++ more)) same ∙ take_at xs more _ refl
 
-pub invariant-of-result : goal.invariant-of-result
-invariant-of-result c =
+pub invariant_of-result : goal.invariant_of-result
+invariant_of-result c =
     let ps = c.args.points.now in
     ((lawful_count ps c.requires).1, (ap lawful_table (copied ps _ _ c.copy-from-slice.ensures.after) ∙ c.requires, tt))
 

@@ -3,8 +3,8 @@ use Rattle.std.proofs.Common.{◌-◌, mul-le-mul_right, arith}
 use Rattle.rules.proofs.PullTables.{line_cap}
 use Rattle.pull_table.proofs.table.pull.on_line.Goals as goal
 
-pub unreachable-requires : goal.unreachable-requires
-unreachable-requires c =
+pub prove-unreachable-requires : goal.prove-unreachable-requires
+prove-unreachable-requires c =
     let p = c.args.p in
     let n = c.args.n in
     let cap = line_cap p n c.args.v.tenths c.requires.fall c.requires.from (omega arith) in

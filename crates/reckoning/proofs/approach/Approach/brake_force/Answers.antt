@@ -3,13 +3,13 @@ use Rattle.rules.specs.Stop.{brake_force}
 use Rattle.reckoning.proofs.Bounds.{pressed_small, pressed_within}
 use Rattle.reckoning.proofs.approach.Approach.brake_force.Goals as goal
 
-pub overflow-mul-self : goal.overflow-mul-self
-overflow-mul-self g c =
+pub overflow_mul-self : goal.overflow_mul-self
+overflow_mul-self g c =
     let a = c.args.self.now in
     omega (arith, pressed_small a.factor a.pressure a.braking (omega (arith, a.pressed, a.light)))
 
-pub unreachable-requires : goal.unreachable-requires
-unreachable-requires g c =
+pub prove-unreachable-requires : goal.prove-unreachable-requires
+prove-unreachable-requires g c =
     let a = c.args.self.now in
     let over = c.in-default.ensures (omega (arith, a.some)) in
     omega (arith, over, pressed_within a.factor a.pressure (a.hauling + a.trailing) a.braking a.pressed)

@@ -3,11 +3,11 @@ use Rattle.rules.specs.Stop.{delay_run}
 use Rattle.reckoning.proofs.Bounds.{parts_small, delay_small, quotient_small}
 use Rattle.reckoning.proofs.approach.Approach.delay.Goals as goal
 
-pub overflow-add-parts : goal.overflow-add-parts
-overflow-add-parts g c = search (rules, parts_small)
+pub overflow_add-parts : goal.overflow_add-parts
+overflow_add-parts g c = search (rules, parts_small)
 
-pub overflow-mul-from : goal.overflow-mul-from
-overflow-mul-from g c =
+pub overflow_mul-from : goal.overflow_mul-from
+overflow_mul-from g c =
     let small : c.from-3.result * (1000 * c.from.result * c.from-brake.result + 1000 * c.from-2.result * c.from-fall.result) ≤ 1600 * (180000 * 4294967296) = search (rules, delay_small) in
     omega (arith, small)
 

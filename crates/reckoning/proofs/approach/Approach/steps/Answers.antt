@@ -23,11 +23,11 @@ returns-then-force-lt1000 g c =
           c.edge-z.result.tenths c.loop-k.invariant c.loop-k-test.true c.edge-z.ensures _ is c.if-force-lt1000.true,
     )
 
-pub overflow-add-distance : goal.overflow-add-distance
-overflow-add-distance g c = omega (arith, c.loop-k.invariant.small, c.loop-k.invariant.edges, c.args.v.lawful, c.run-distance.ensures.small)
+pub overflow_add-distance : goal.overflow_add-distance
+overflow_add-distance g c = omega (arith, c.loop-k.invariant.small, c.loop-k.invariant.edges, c.args.v.lawful, c.run-distance.ensures.small)
 
-pub overflow-add-count : goal.overflow-add-count
-overflow-add-count g c = omega (arith, c.loop-k.invariant.edges, c.args.v.lawful)
+pub overflow_add-count : goal.overflow_add-count
+overflow_add-count g c = omega (arith, c.loop-k.invariant.edges, c.args.v.lawful)
 
 pub loop-k-preserved : goal.loop-k-preserved
 loop-k-preserved g c =

@@ -1,5 +1,5 @@
 use Rattle.std.proofs.Common.{arith, rules}
 use Rattle.reckoning.proofs.approach.Approach.stop.Goals as goal
 
-pub overflow-add-distance : goal.overflow-add-distance
-overflow-add-distance g c = omega (arith, c.delay.ensures.small, c.in-ok-run.ensures)
+pub overflow_add-distance : goal.overflow_add-distance
+overflow_add-distance g c = omega (arith, c.delay.ensures.small, c.in-ok-run.ensures)

@@ -3,8 +3,8 @@ use Rattle.rules.specs.Book.{per_wagon}
 use Rattle.reckoning.proofs.Bounds.{per_wagon_range}
 use Rattle.reckoning.proofs.approach.place.mass_per_wagon.Goals as goal
 
-pub unreachable-requires : goal.unreachable-requires
-unreachable-requires c =
+pub prove-unreachable-requires : goal.prove-unreachable-requires
+prove-unreachable-requires c =
     let t = c.args.totals in
     let range = per_wagon_range t.trailing t.wagons t.trails t.trailed in
     let same : c.tenths-per-wagon.result ≡ per_wagon t.trailing t.wagons =

@@ -2,8 +2,8 @@ use Rattle.std.proofs.Common.{◌≡◌, ◌+◌, ◌/◌, ◌≤◌, ap, arith}
 use Rattle.units.proofs.Shares.{mean_small}
 use Rattle.units.proofs.quantity.Milli.mean.Goals as goal
 
-pub overflow-cast-result : goal.overflow-cast-result
-overflow-cast-result c =
+pub overflow_cast-result : goal.overflow_cast-result
+overflow_cast-result c =
     let some : 1 ≤ c.args.mass + c.args.beside = omega (arith, c.if-whole-eq0.false, c.from.ensures, c.from-2.ensures) in
     let whole : c.from-3.result ≡ c.args.mass + c.args.beside = omega (arith, c.from-3.ensures, c.from.ensures, c.from-2.ensures) in
     let same : (c.weighed.result + c.weighed-2.result) / c.from-3.result ≡ (c.weighed.result + c.weighed-2.result) / (c.args.mass + c.args.beside) =
