@@ -7,17 +7,17 @@ use Rattle.pull_table.proofs.breaks.first_break.Goals as goal
 pub loop-k-init : goal.loop-k-init
 loop-k-init c =
     let some : 0 < length c.args.points.now = omega (arith, ltb-false) in
-    begins_as _ c.args.points.now _ some c.if-not-can-begin.ensures
+    begins_as _ c.args.points.now _ some c.if-not-can_begin.ensures
 
 pub loop-k-preserved : goal.loop-k-preserved
 loop-k-preserved c =
-    goes_on_as _ c.args.points.now _ c.loop-k.k c.loop-k.last c.loop-k-test.true c.if-not-can-come-next.ensures
+    goes_on_as _ c.args.points.now _ c.loop-k.k c.loop-k.last c.loop-k-test.true c.if-not-can_come_next.ensures
     ∙ c.loop-k.invariant
 
-pub returns-then-not-can-come-next : goal.returns-then-not-can-come-next
-returns-then-not-can-come-next c =
+pub returns-then-not-can_come_next : goal.returns-then-not-can_come_next
+returns-then-not-can_come_next c =
     let here =
-    goes_on_as _ c.args.points.now _ c.loop-k.k c.loop-k.last c.loop-k-test.true c.if-not-can-come-next.ensures
+    goes_on_as _ c.args.points.now _ c.loop-k.k c.loop-k.last c.loop-k-test.true c.if-not-can_come_next.ensures
     ∙ c.loop-k.invariant in
     record { place = here; says = break_says _ _ (sym here) }
 

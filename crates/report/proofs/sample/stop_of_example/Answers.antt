@@ -22,6 +22,6 @@ same_laws x y z = cc
 pub returns : goal.returns
 unfolding laws_by
 returns c =
-    let told = c.diesel-freight.ensures in
+    let told = c.diesel_freight.ensures in
     c.stop.ensures
     ∙ ap (λ s. asked_to_stop freight s (book_of c.args.sheet.now) 0 c.args.speed 10) (same_laws told.pull told.pulling told.coasting)

@@ -15,8 +15,8 @@ returns-then-self-eq0 c =
 pub returns : goal.returns
 returns c =
     let f = c.args.self.now.figures in
-    let some : 1 ≤ f.metres * f.radius = omega (arith, c.if-self-eq0.false, c.length-by-radius.ensures.wide, c.length-by-radius.ensures.value) in
-    let bend : c.curve-up.result ≡ pos (rounded_up (ratio (700000 * f.curve) (f.metres * f.radius))) = c.curve-up.ensures.value ∙ ap (λ t. pos (rounded_up (ratio (700000 * f.curve) t))) c.length-by-radius.ensures.value in
-    let sum : c.with-curve.result ≡ pos 100 *ℤ f.gradient +ℤ pos (rounded_up (ratio (700000 * f.curve) (f.metres * f.radius))) = omega (arith, ints, bend, c.with-curve.ensures) in
-    let high : c.max-2.result ≡ int_max c.with-curve.result (pos 0) = omega (arith, ints, clamps, c.max-2.ensures.value) in
+    let some : 1 ≤ f.metres * f.radius = omega (arith, c.if-self-eq0.false, c.length_by_radius.ensures.wide, c.length_by_radius.ensures.value) in
+    let bend : c.curve_up.result ≡ pos (rounded_up (ratio (700000 * f.curve) (f.metres * f.radius))) = c.curve_up.ensures.value ∙ ap (λ t. pos (rounded_up (ratio (700000 * f.curve) t))) c.length_by_radius.ensures.value in
+    let sum : c.with_curve.result ≡ pos 100 *ℤ f.gradient +ℤ pos (rounded_up (ratio (700000 * f.curve) (f.metres * f.radius))) = omega (arith, ints, bend, c.with_curve.ensures) in
+    let high : c.max-2.result ≡ int_max c.with_curve.result (pos 0) = omega (arith, ints, clamps, c.max-2.ensures.value) in
     to_z-of_z w32 c.max-2.result (search rules) ∙ high ∙ ap (λ t. int_max t (pos 0)) sum ∙ sym (high_curved f c.if-self-eq0.false some)

@@ -27,7 +27,7 @@ loop-section-preserved c =
         ap (λ (t : ℕ). lowest_with c.if-meets.lowest (grades_left c.args.from c.args.to t (i + 1) xs)) w.start-is
             ∙ turn_takes c.args.from c.args.to c.loop-section.start i xs x c.loop-section-test.true c.section-item.is
             (c.loop-section.start + c.metres.result) c.loop-section.lowest c.if-meets.lowest _ _ end c.meets.ensures c.loop-section.invariant.1
-            w.lower-of.result w.low_grade.result.0 w.if-meets.true w.lower-of.ensures w.low_grade.ensures w.lowest-is,
+            w.lower_of.result w.low_grade.result.0 w.if-meets.true w.lower_of.ensures w.low_grade.ensures w.lowest-is,
       )
       | else-meets w ↦ (
         omega (arith, w.start-is, x.short),
@@ -42,8 +42,8 @@ pub returns : goal.returns
 returns c =
     let xs = c.deref-section-items.result.now in
     let over : length xs ≤ c.loop-section.section-index = omega arith in
-    ap (λ (g : Grade). g.0) c.unwrap-or.ensures
-    ∙ lowest_found c.loop-section.lowest c.from-milli.result c.from-milli.ensures
+    ap (λ (g : Grade). g.0) c.unwrap_or.ensures
+    ∙ lowest_found c.loop-section.lowest c.from_milli.result c.from_milli.ensures
     ∙ sym (window_ends c.args.from c.args.to c.loop-section.start c.loop-section.section-index xs c.loop-section.lowest over)
     ∙ c.loop-section.invariant.1
     ∙ ap (λ (t : List Section). lowest_low_grade (window c.args.from c.args.to (map (λ s. s.figures) t))) c.deref-section-items.ensures.value

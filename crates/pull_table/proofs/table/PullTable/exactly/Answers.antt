@@ -18,8 +18,8 @@ loop-next-init c =
     let some : 0 < length c.points.result.now = omega (arith, ltb-false) in
     reached_first _ _ _ _ (sym c.points.ensures ∙ first_rest c.points.result.now _ some) c.args.self.now.lawful
 
-pub on-line-requires : goal.on-line-requires
-on-line-requires c =
+pub on_line-requires : goal.on_line-requires
+on_line-requires c =
     let at = c.loop-next.invariant in
     let follows = here_follows at (next_read _ c.loop-next.next-index _ c.loop-next-test.true) in
     record {
@@ -40,7 +40,7 @@ loop-next-preserved c =
 
 pub returns-then-tenths-next : goal.returns-then-tenths-next
 returns-then-tenths-next c =
-    c.on-line.ensures
+    c.on_line.ensures
     ∙ here_between c.loop-next.invariant (next_read _ c.loop-next.next-index _ c.loop-next-test.true)
     (omega (arith, c.if-tenths-next.true, c.tenths.ensures))
 

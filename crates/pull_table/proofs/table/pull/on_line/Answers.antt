@@ -8,4 +8,4 @@ prove-unreachable-requires c =
     let p = c.args.p in
     let n = c.args.n in
     let cap = line_cap p n c.args.v.tenths c.requires.fall c.requires.from (omega arith) in
-    omega (arith, c.times-length-sum.ensures, cap, mul-le-mul_right (n.speed - p.speed) c.requires.small, c.in-default.ensures (omega arith))
+    omega (arith, c.times_length-sum.ensures, cap, mul-le-mul_right (n.speed - p.speed) c.requires.small, c.in-default.ensures (omega arith))

@@ -21,5 +21,5 @@ returns g c =
     let pressed = ratio.0 in
     let weight = ratio.1 in
     let share = c.braking.ensures.share in
-    let friction = c.friction-below.ensures in
+    let friction = c.friction_below.ensures in
     cc

@@ -23,5 +23,5 @@ returns g c =
     let some : 1 ≤ 36 * c.from-brake.result = omega (arith, c.requires) in
     record {
       value = search rules;
-      small = omega (arith, c.div-ceil.ensures, quotient_small _ (36 * c.from-brake.result) (1600 * (180000 * 4294967296)) some small);
+      small = omega (arith, c.div_ceil.ensures, quotient_small _ (36 * c.from-brake.result) (1600 * (180000 * 4294967296)) some small);
     }

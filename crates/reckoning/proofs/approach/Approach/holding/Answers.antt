@@ -5,4 +5,4 @@ use Rattle.reckoning.proofs.approach.Approach.holding.Goals as goal
 
 pub returns : goal.returns
 unfolding holding_force
-returns g c = omega (arith, ints, c.braking.ensures, c.drag.ensures, c.holding-milli.ensures)
+returns g c = omega (arith, ints, c.braking.ensures, c.drag.ensures, c.holding_milli.ensures)

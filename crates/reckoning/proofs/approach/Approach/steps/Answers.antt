@@ -6,7 +6,7 @@ use Rattle.reckoning.proofs.Brakings.{begins, again, gives_way, ends}
 use Rattle.reckoning.proofs.approach.Approach.steps.Goals as goal
 
 pub loop-k-init : goal.loop-k-init
-loop-k-init g c = begins _ c.from-least.result c.args.v.tenths c.edges-below-k.result c.from-least.result c.edges-below-k.ensures refl
+loop-k-init g c = begins _ c.from-least.result c.args.v.tenths c.edges_below-k.result c.from-least.result c.edges_below-k.ensures refl
 
 pub edge-z-requires : goal.edge-z-requires
 edge-z-requires g c = omega (arith, c.loop-k.invariant.edges, c.args.v.lawful)

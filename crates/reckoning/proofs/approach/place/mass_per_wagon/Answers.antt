@@ -7,7 +7,7 @@ pub prove-unreachable-requires : goal.prove-unreachable-requires
 prove-unreachable-requires c =
     let t = c.args.totals in
     let range = per_wagon_range t.trailing t.wagons t.trails t.trailed in
-    let same : c.tenths-per-wagon.result ≡ per_wagon t.trailing t.wagons =
-    c.tenths-per-wagon.ensures ∙ ap (λ m. per_wagon m c.wagons.result) c.trailing.ensures ∙ ap (per_wagon t.trailing) c.wagons.ensures in
+    let same : c.tenths_per_wagon.result ≡ per_wagon t.trailing t.wagons =
+    c.tenths_per_wagon.ensures ∙ ap (λ m. per_wagon m c.wagons.result) c.trailing.ensures ∙ ap (per_wagon t.trailing) c.wagons.ensures in
     let over = c.in-default.ensures (omega arith) in
     omega arith

@@ -5,8 +5,8 @@ use Rattle.train.specs.Vehicles.{vehicle_of}
 use Rattle.rules.proofs.Tables.{full, room_left, by_law}
 use Rattle.train.proofs.consist.Consist.couple.Goals as goal
 
-pub returns-then-len-ge-MOST-VEHICLES : goal.returns-then-len-ge-MOST-VEHICLES
-returns-then-len-ge-MOST-VEHICLES c =
+pub returns-then-len-ge-MOST_VEHICLES : goal.returns-then-len-ge-MOST_VEHICLES
+returns-then-len-ge-MOST_VEHICLES c =
     let l = by_law (lawful_vehicle c.args.figures) (vehicle_of c.in-Some.vehicle) _ c.in-Some.ensures in
     let lawful = l.0 in
     search (rules, full)
@@ -18,5 +18,5 @@ returns c =
     let lawful = l.0 in
     record {
       answer = search (rules, room_left);
-      held = ap (map vehicle_of) c.push-reserved.ensures.items ∙ map_push vehicle_of xs c.in-Some.vehicle ∙ ap (λ t. map vehicle_of xs ++ t ∷ []) l.1;
+      held = ap (map vehicle_of) c.push_reserved.ensures.items ∙ map_push vehicle_of xs c.in-Some.vehicle ∙ ap (λ t. map vehicle_of xs ++ t ∷ []) l.1;
     }

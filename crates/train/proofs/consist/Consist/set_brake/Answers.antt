@@ -10,5 +10,5 @@ pub returns : goal.returns
 returns c =
     let xs = vec_items c.args.self.now.vehicles in
     let here : c.args.k < length xs = search rules in
-    let held = set_brake c.args.on xs c.args.k c.index-mut-vehicle.result.now c.set_brake.new.self here c.index-mut-vehicle.ensures.value c.set_brake.ensures in
+    let held = set_brake c.args.on xs c.args.k c.index_mut-vehicle.result.now c.set_brake.new.self here c.index_mut-vehicle.ensures.value c.set_brake.ensures in
     record { answer = search (rules, there); held = held; framed = only_brake c.args.on _ _ _ held }
