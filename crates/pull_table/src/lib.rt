@@ -1,5 +1,6 @@
 // The pull of a locomotive by a table of points.
 #![tactic(auto)]
+
 pub mod breaks;
 pub mod table;
 

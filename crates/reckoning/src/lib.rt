@@ -1,5 +1,6 @@
 // The questions that are asked of a sheet, over any kind of brake and any stock.
 #![tactic(auto)]
+
 pub mod approach;
 pub mod questions;
 mod step;

@@ -16,6 +16,6 @@ returns g c =
     let reply : Approach → ℕ → Reply = λ x v. decide (first_no (stopping k x v)) (stop_figures k x v) in
     let speed : c.in-Some.v.tenths ≡ c.args.speed = c.in-Some.ensures in
     let slow : c.args.speed ≤ 1600 = omega (arith, c.in-Some.v.lawful) in
-    let here = c.in-ok-approach.ensures in
+    let here = c.in_ok-approach.ensures in
     c.stop.ensures ∙ ap (λ (x : Approach). reply x c.in-Some.v.tenths) (here.1 s) ∙ ap (reply a) speed
     ∙ ap (λ (o : Option ℕ). decide o (stop_figures k a c.args.speed)) (sym (approached b c.args.place c.args.speed c.args.factor (stopping k a c.args.speed) slow here.0))

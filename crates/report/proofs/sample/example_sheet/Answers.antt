@@ -17,7 +17,7 @@ pub returns : goal.returns
 returns c =
     let l : VehicleFigures = record { letter = 76; mass = 1000; pressure = 400 } in
     let w : VehicleFigures = record { letter = 87; mass = 600; pressure = 200 } in
-    let one = after_call (λ b. first_no (coupling b.vehicles l)) (λ b. coupled b l) _ _ new_book _ c.in-ok-sheet.ensures c.couple.ensures.answer c.couple.ensures.held in
+    let one = after_call (λ b. first_no (coupling b.vehicles l)) (λ b. coupled b l) _ _ new_book _ c.in_ok-sheet.ensures c.couple.ensures.answer c.couple.ensures.held in
     let two = after_call (λ b. first_no (coupling b.vehicles w)) (λ b. coupled b w) _ _ _ _ one c.couple-2.ensures.answer c.couple-2.ensures.held in
     let f : SectionFigures = long_section (to_z w32 (of_z w32 c.args.gradient)) in
     after_call (λ b. first_no (appending b.sections f)) (λ b. appended b f) _ _ _ _ two c.append.ensures.answer c.append.ensures.held

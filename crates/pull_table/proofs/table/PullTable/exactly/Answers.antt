@@ -7,8 +7,8 @@ use Rattle.rules.proofs.Tables.{next_read}
 use Rattle.rules.proofs.PullTables.{lawful_count, reached_first, reached_next, here_follows, here_between, reached_last}
 use Rattle.pull_table.proofs.table.PullTable.exactly.Goals as goal
 
-pub prove-unreachable-requires : goal.prove-unreachable-requires
-prove-unreachable-requires c =
+pub unreachable-requires : goal.unreachable-requires
+unreachable-requires c =
     let none : length c.points.result.now ≡ 0 = omega (arith, ltb-true) in
     let t = c.args.self.now in
     omega (arith, (lawful_count (points_of t) t.lawful).0, ap length c.points.ensures)

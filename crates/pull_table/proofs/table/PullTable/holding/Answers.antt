@@ -11,7 +11,10 @@ copied xs ys more same = ap (λ zs. take (length xs) (zs ++ more)) same ∙ take
 pub invariant_of-result : goal.invariant_of-result
 invariant_of-result c =
     let ps = c.args.points.now in
-    ((lawful_count ps c.requires).1, (ap lawful_table (copied ps _ _ c.copy_from_slice.ensures.after) ∙ c.requires, tt))
+    record {
+      few = (lawful_count ps c.requires).1;
+      lawful = ap lawful_table (copied ps _ _ c.copy_from_slice.ensures.after) ∙ c.requires;
+    }
 
 pub returns : goal.returns
 returns c = copied c.args.points.now _ _ c.copy_from_slice.ensures.after

@@ -8,10 +8,10 @@ overflow_mul-self g c =
     let a = c.args.self.now in
     omega (arith, pressed_small a.factor a.pressure a.braking (omega (arith, a.pressed, a.light)))
 
-pub prove-unreachable-requires : goal.prove-unreachable-requires
-prove-unreachable-requires g c =
+pub unreachable-requires : goal.unreachable-requires
+unreachable-requires g c =
     let a = c.args.self.now in
-    let over = c.in-default.ensures (omega (arith, a.some)) in
+    let over = c.in_default.ensures (omega (arith, a.some)) in
     omega (arith, over, pressed_within a.factor a.pressure (a.hauling + a.trailing) a.braking a.pressed)
 
 pub returns : goal.returns

@@ -17,7 +17,7 @@ new-step-requires g c = omega (arith, c.loop-k.invariant.next c.loop-k-test.true
 pub returns-then-force-lt1000 : goal.returns-then-force-lt1000
 returns-then-force-lt1000 g c =
     let force = holding_force (approach_of c.args.self.now (g.S.StockLaws.meaning c.args.stock.now)) in
-    let is = to_z-of_z w64 c.holding_force.result (search rules) ∙ c.holding_force.ensures ∙ ap force c.new-step.ensures in (
+    let is = to_z-of_z w64 c.holding-force.result (search rules) ∙ c.holding-force.ensures ∙ ap force c.new-step.ensures in (
       refl,
       gives_way force c.from-least.result c.args.v.tenths c.loop-k.y.tenths c.loop-k.k c.loop-k.distance c.loop-k.least c.loop-k.count
           c.edge-z.result.tenths c.loop-k.invariant c.loop-k-test.true c.edge-z.ensures _ is c.if-force-lt1000.true,
@@ -32,8 +32,8 @@ overflow_add-count g c = omega (arith, c.loop-k.invariant.edges, c.args.v.lawful
 pub loop-k-preserved : goal.loop-k-preserved
 loop-k-preserved g c =
     let force = holding_force (approach_of c.args.self.now (g.S.StockLaws.meaning c.args.stock.now)) in
-    let is = to_z-of_z w64 c.holding_force.result (search rules) ∙ c.holding_force.ensures ∙ ap force c.new-step.ensures in
-    let run = c.run-distance.ensures.value ∙ ap (λ (t : Step). braking_run t (nat_abs (to_z w64 (of_z w64 c.holding_force.result)))) c.new-step.ensures in
+    let is = to_z-of_z w64 c.holding-force.result (search rules) ∙ c.holding-force.ensures ∙ ap force c.new-step.ensures in
+    let run = c.run-distance.ensures.value ∙ ap (λ (t : Step). braking_run t (nat_abs (to_z w64 (of_z w64 c.holding-force.result)))) c.new-step.ensures in
     again force c.from-least.result c.args.v.tenths c.loop-k.y.tenths c.loop-k.k c.loop-k.distance c.loop-k.least c.loop-k.count
     c.edge-z.result.tenths c.loop-k.invariant c.loop-k-test.true c.edge-z.ensures _ c.run-distance.result c.min-least.result is c.if-force-lt1000.false
     run c.run-distance.ensures.small c.min-least.ensures
