@@ -1,5 +1,6 @@
 // How the programs print what a call came to, and the train and the stock that they ask with.
 #![tactic(auto)]
+
 pub mod outcome;
 pub mod printing;
 pub mod sample;
@@ -7,5 +8,6 @@ pub mod sample;
 pub use outcome::{Outcome, StopAnswer};
 pub use printing::{tell, tell_stop};
 pub use sample::{
-    DieselFreight, diesel_freight, example_pull, example_sheet, example_table, stop_of_example,
+    DieselByTable, DieselFreight, diesel_by_table, diesel_freight, example_pull, example_sheet,
+    example_table, stop_of_example,
 };

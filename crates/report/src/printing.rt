@@ -1,10 +1,10 @@
 use crate::outcome::{Outcome, StopAnswer};
 use crate::sample::diesel_freight;
+use laws::BrakeKind;
 use reckoning::stop;
 use rules::Refusal;
 use sheet::Sheet;
 use std::io;
-use stock::BrakeKind;
 
 /// What a call without figures came to.
 pub fn tell(rt: &HostRuntime, label: &str, res: Result<(), Refusal>) -> io::Result<()> {
@@ -21,7 +21,7 @@ pub fn tell_stop<K: BrakeKind>(
     speed: u32,
     factor: u32,
 ) -> io::Result<()> {
-    let answer = StopAnswer(stop::<K, stock::stock::Stock<_, _, _>>(
+    let answer = StopAnswer(stop::<K, laws::stock::Stock<_, _, _>>(
         sheet,
         &diesel_freight(),
         place,

@@ -1,25 +1,42 @@
 ghost use Rattle.pull_table.specs.Tables.{points_of};
+ghost use Rattle.report.specs.Samples.{example_book};
 ghost use Rattle.rules.specs.Formulas.{df4_a, df4_b, df4_c};
 ghost use Rattle.rules.specs.Refusals.{stop_reply};
-ghost use Rattle.rules.specs.Sample.{example_book, example_points, example_pull, example_stop};
+ghost use Rattle.rules.specs.Sample.{example_points, example_pull, example_stop};
 ghost use Rattle.sheet.specs.Sheets.{book_of};
 ghost use Rattle.std.specs.Prelude.{◌≡◌, IfOk};
 
-use laws::{CastIron, QuadraticDrag, WagonDrag};
+use laws::{CastIron, Freight, Locomotive, NoPull, QuadraticDrag, Stock, WagonDrag};
 use layers::Scale;
 use pull_table::PullTable;
 use reckoning::stop;
 use rules::{PointFigures, Refusal, SectionFigures, VehicleFigures};
 use sheet::Sheet;
 use std::alloc::{AllocError, Global};
-use stock::{Freight, Locomotive, Stock};
 
-/// Cast iron blocks, a diesel locomotive by a share of its pull table and by its three drag constants, and wagons.
+/// Cast iron blocks, a diesel locomotive by its three constants, and wagons.
 pub type DieselFreight = Stock<
     CastIron,
-    Locomotive<Scale<PullTable>, QuadraticDrag, QuadraticDrag>,
+    Locomotive<NoPull, QuadraticDrag, QuadraticDrag>,
     WagonDrag,
 >;
+
+/// The stock with a DF4 locomotive; it is asked for stops only, so no pull is stated.
+pub fn diesel_freight() -> DieselFreight
+    ensures pulling { (result.locomotive.pulling.a ≡ 2280000) × (result.locomotive.pulling.b ≡ 29300) × (result.locomotive.pulling.c ≡ 178) }
+    ensures coasting { (result.locomotive.coasting.a ≡ 2280000) × (result.locomotive.coasting.b ≡ 29300) × (result.locomotive.coasting.c ≡ 178) }
+{
+    let locomotive = Locomotive {
+        pull: NoPull,
+        pulling: QuadraticDrag::df4(),
+        coasting: QuadraticDrag::df4(),
+    };
+    Stock {
+        friction: CastIron,
+        locomotive,
+        wagon: WagonDrag,
+    }
+}
 
 /// A pull of 40,000 kgf at rest and 20,000 kgf at 40 km/h.
 pub fn example_table() -> PullTable
@@ -42,8 +59,15 @@ pub fn example_pull() -> Scale<PullTable>
     pull
 }
 
-/// The stock with a DF4 locomotive.
-pub fn diesel_freight() -> DieselFreight
+/// The same stock, its locomotive pulling by a share of its table.
+pub type DieselByTable = Stock<
+    CastIron,
+    Locomotive<Scale<PullTable>, QuadraticDrag, QuadraticDrag>,
+    WagonDrag,
+>;
+
+/// The stock with a DF4 locomotive that has the example's pull.
+pub fn diesel_by_table() -> DieselByTable
     ensures pull { (points_of result.locomotive.pull.base ≡ example_points) × (result.locomotive.pull.percent ≡ 90) }
     ensures pulling { (result.locomotive.pulling.a ≡ df4_a) × (result.locomotive.pulling.b ≡ df4_b) × (result.locomotive.pulling.c ≡ df4_c) }
     ensures coasting { (result.locomotive.coasting.a ≡ df4_a) × (result.locomotive.coasting.b ≡ df4_b) × (result.locomotive.coasting.c ≡ df4_c) }
@@ -64,7 +88,7 @@ pub fn diesel_freight() -> DieselFreight
 pub fn stop_of_example(sheet: &Sheet, speed: u32) -> Result<(u32, u32, u32), Refusal>
     ensures { stop_reply result ≡ example_stop example_pull (book_of sheet.now) speed }
 {
-    stop::<Freight, Stock<_, _, _>>(sheet, &diesel_freight(), 0, speed, 10)
+    stop::<Freight, Stock<_, _, _>>(sheet, &diesel_by_table(), 0, speed, 10)
 }
 
 /// A locomotive of 100 t and a wagon of 60 t, on 3,000 m of a gradient.

@@ -6,7 +6,7 @@ use Rattle.rules.specs.declared.figures.VehicleFigures.{VehicleFigures}
 use Rattle.rules.specs.Book.{Book, new_book, coupled, appended}
 use Rattle.rules.specs.Questions.{coupling, appending}
 use Rattle.rules.specs.Refusals.{first_no, unless}
-use Rattle.rules.specs.Sample.{long_section, example_book}
+use Rattle.report.specs.Samples.{long_section, example_book}
 use Rattle.report.proofs.sample.example_sheet.Goals as goal
 
 after_call : (asks : Book → Option ℕ) (does : Book → Book) (s s' b : Book) (t : Option ℕ) → s ≡ b → t ≡ asks s → s' ≡ unless t (does s) s → s' ≡ unless (asks b) (does b) b

@@ -13,7 +13,7 @@ use Rattle.report.proofs.sample.stop_of_example.Goals as goal
 laws_by : List PointFigures → ℕ → ℕ → ℕ → ℕ → ℕ → ℕ → ℕ → Stock
 laws_by ps p a b c a' b' c' =
     stock (rounded_falling cast_iron) (scaled p (rounded_falling (table_pull ps)))
-    (rounded_drag (λ v _. quadratic_drag a b c v)) (rounded_drag (λ v _. quadratic_drag a' b' c' v)) (rounded_drag wagon_drag)
+    (rounded_drag (quadratic_drag a b c)) (rounded_drag (quadratic_drag a' b' c')) (rounded_drag wagon_drag)
 
 same_laws : {ps qs : List PointFigures} {p q a b c a' b' c' d e f d' e' f' : ℕ} → (ps ≡ qs) × (p ≡ q) → (a ≡ d) × (b ≡ e) × (c ≡ f) → (a' ≡ d') × (b' ≡ e') × (c' ≡ f')
     → laws_by ps p a b c a' b' c' ≡ laws_by qs q d e f d' e' f'
@@ -22,6 +22,6 @@ same_laws x y z = cc
 pub returns : goal.returns
 unfolding laws_by
 returns c =
-    let told = c.diesel_freight.ensures in
+    let told = c.diesel_by_table.ensures in
     c.stop.ensures
     ∙ ap (λ s. asked_to_stop freight s (book_of c.args.sheet.now) 0 c.args.speed 10) (same_laws told.pull told.pulling told.coasting)
