@@ -1,5 +1,6 @@
 // Checked figures: laws, kinds of brake and grades at known places, and stops from one step to many.
 #![tactic(auto)]
+
 mod laws_read;
 mod lines;
 mod stops;

@@ -1,6 +1,6 @@
 use laws::{ElectroPneumatic, Freight, FreightByHand, Passenger, PassengerByHand};
 use reckoning::stop;
-use report::{StopAnswer, diesel_freight, example_sheet, tell_stop};
+use report::{StopAnswer, diesel_freight, example_sheet, stop_of_example, tell_stop};
 use rules::{SectionFigures, VehicleFigures};
 use sheet::Sheet;
 use std::io;
@@ -10,13 +10,7 @@ pub fn example_train(rt: &HostRuntime) -> io::Result<()> {
     println!(rt; "stops of the example train")?;
     for (gradient, speed) in [(-100, 100), (0, 100), (100, 100), (0, 0)] {
         let sheet = example_sheet(rt.alloc(), gradient)?;
-        let answer = StopAnswer(stop::<Freight, laws::stock::Stock<_, _, _>>(
-            &sheet,
-            &diesel_freight(),
-            0,
-            speed,
-            10,
-        ));
+        let answer = StopAnswer(stop_of_example(&sheet, speed));
         println!(rt; "gradient {gradient}, speed {speed}: {answer}")?;
     }
     Ok(())
@@ -99,13 +93,7 @@ pub fn long_stops(rt: &HostRuntime) -> io::Result<()> {
         (500, 551),
         (500, 550),
     ] {
-        let answer = StopAnswer(stop::<Freight, laws::stock::Stock<_, _, _>>(
-            &sheet,
-            &diesel_freight(),
-            place,
-            speed,
-            9,
-        ));
+        let answer = StopAnswer(stop::<Freight, _>(&sheet, &diesel_freight(), place, speed, 9));
         println!(rt; "place {place}, speed {speed}: {answer}")?;
     }
     Ok(())

@@ -81,12 +81,6 @@ pub fn ask<K: BrakeKind>(
     speed: u32,
     factor: u32,
 ) -> io::Result<()> {
-    let answer = StopAnswer(stop::<K, laws::stock::Stock<_, _, _>>(
-        sheet,
-        &diesel_freight(),
-        place,
-        speed,
-        factor,
-    ));
+    let answer = StopAnswer(stop::<K, _>(sheet, &diesel_freight(), place, speed, factor));
     println!(rt; "stop by {brake} brake, place {place}, speed {speed}, factor {factor}: {answer}")
 }

@@ -1,6 +1,7 @@
 // One train made up, inspected and asked for its stopping distance: every action is printed with its outcome, a refused
 // one with its number, and the sheet as its getters tell it after each edit.
 #![tactic(auto)]
+
 mod actions;
 mod show;
 

@@ -1,5 +1,6 @@
 // Every maker of a law or a layer with figures just inside and outside its ranges, and the points that break a table.
 #![tactic(auto)]
+
 mod makes;
 mod tables;
 

@@ -1,11 +1,12 @@
-use laws::{AdhesionPull, CastIron, Composite, QuadraticDrag, WagonDrag};
+use laws::{
+    AdhesionPull, CastIron, Composite, Locomotive, Passenger, QuadraticDrag, Stock, WagonDrag,
+};
 use layers::{Blend, Lesser, Scale};
 use pull_table::PullTable;
 use reckoning::stop;
 use report::{StopAnswer, example_sheet, example_table};
 use rules::Refusal;
 use std::io;
-use stock::{Locomotive, Passenger, Stock};
 
 // A stock with layers in the place of every law.
 type Layered = Stock<

@@ -1,5 +1,6 @@
 // Every law and layer read at known speeds, below and above, and stops by layers alone.
 #![tactic(auto)]
+
 mod drags;
 mod falling;
 mod frictions;

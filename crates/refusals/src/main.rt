@@ -1,5 +1,6 @@
 // Every refusal with its number, each beside a call that just passes.
 #![tactic(auto)]
+
 mod drags;
 mod lines;
 mod stops;

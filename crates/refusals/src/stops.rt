@@ -15,7 +15,7 @@ pub fn out_of_range(rt: &HostRuntime) -> io::Result<()> {
         (2000, 100, 10),
         (2001, 100, 10),
     ] {
-        let answer = StopAnswer(stop::<Freight, laws::stock::Stock<_, _, _>>(
+        let answer = StopAnswer(stop::<Freight, _>(
             &sheet,
             &diesel_freight(),
             place,

@@ -21,7 +21,7 @@ pub fn tell_stop<K: BrakeKind>(
     speed: u32,
     factor: u32,
 ) -> io::Result<()> {
-    let answer = StopAnswer(stop::<K, laws::stock::Stock<_, _, _>>(
+    let answer = StopAnswer(stop::<K, _>(
         sheet,
         &diesel_freight(),
         place,
