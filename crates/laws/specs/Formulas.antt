@@ -1,5 +1,5 @@
 -- Bounds and order of the formulas.
-use Rattle.std.specs.Prelude.{ℕ, ◌+◌, ◌*◌, ◌≤◌}
+use Rattle.std.specs.Prelude.{ℕ, ◌*◌, ◌≤◌}
 use Rattle.std.proofs.Common.{arith, mul-le-mul, mul-le-mul_left, mul-le-mul_right}
 use Rattle.rules.specs.Ratio.{AtMost}
 use Rattle.rules.specs.Formulas.{adhesion, AdhesionRange, wagon_drag, quadratic_drag, QuadraticRange}

@@ -1,5 +1,5 @@
 -- What the test of a section's figures says of them.
-use Rattle.std.proofs.Common.{◌≡◌, ℕ, ◌≤◌, Bool, true, ◌&&◌, T, leb, ℤ, pos, negsuc, ◌≤ℤ◌, sym, subst}
+use Rattle.std.proofs.Common.{◌≡◌, ◌≤◌, true, ◌&&◌, T, leb, ℤ, pos, negsuc, ◌≤ℤ◌, sym, subst}
 use lib.Signed.{le_z, le_z_yes}
 use Rattle.std.proofs.lemmas.Bool.{and_parts, leb-true}
 use Rattle.rules.specs.declared.figures.SectionFigures.{SectionFigures}

@@ -1,11 +1,10 @@
 -- The lowest grade of a window, section by section.
-use Rattle.std.proofs.Common.{◌≡◌, ℕ, ◌+◌, ◌<◌, ◌≤◌, Bool, true, false, cond, ◌&&◌, leb, List, [], ◌∷◌, map, length, get_or, drop, ℤ, pos, Some, None, Option, unwrap_or, sym, refl, ap, ◌∙◌, subst, arith}
+use Rattle.std.proofs.Common.{◌≡◌, ℕ, ◌+◌, ◌<◌, ◌≤◌, Bool, true, false, cond, ◌&&◌, leb, List, [], ◌∷◌, map, length, get_or, drop, ℤ, pos, Some, None, Option, unwrap_or, sym, refl, ap, ◌∙◌, arith}
 use Rattle.std.specs.Int.{int_min}
 use Rattle.std.proofs.lemmas.List.{drop_all}
 use Rattle.std.proofs.lemmas.Int.{ints, clamps}
 use Rattle.units.specs.declared.grade.Grade.{Grade}
-use Rattle.rules.specs.declared.figures.SectionFigures.{SectionFigures}
-use Rattle.rules.specs.Grade.{low_grade, lowest, lowest_low_grade}
+use Rattle.rules.specs.Grade.{low_grade, lowest}
 use Rattle.rules.specs.Window.{Located, window_from}
 use Rattle.line.specs.declared.section.Section.{Section}
 use Rattle.line.specs.Lines.{lower_than}

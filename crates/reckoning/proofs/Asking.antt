@@ -1,7 +1,7 @@
 -- Questions that are answered "yes" leave the decision to those after them.
-use Rattle.std.proofs.Common.{◌≡◌, ℕ, ◌≤◌, Bool, true, false, cond, ◌&&◌, leb, List, [], ◌∷◌, Some, None, Option, refl, ap, ◌∙◌, arith}
+use Rattle.std.proofs.Common.{◌≡◌, ℕ, ◌≤◌, Bool, true, false, cond, leb, List, [], Some, None, Option, refl, arith}
 use Rattle.std.proofs.lemmas.Bool.{le-leb}
-use Rattle.rules.specs.Refusals.{Question, ◌otherwise◌, first_no}
+use Rattle.rules.specs.Refusals.{Question, first_no}
 use Rattle.rules.specs.Book.{Book, locomotives}
 use Rattle.rules.specs.Questions.{approaching, place_in_range, reaches}
 

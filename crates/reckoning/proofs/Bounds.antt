@@ -1,5 +1,5 @@
 -- Products and quotients of the forces stay small.
-use Rattle.std.proofs.Common.{◌≡◌, ℕ, ◌+◌, ◌-◌, ◌*◌, ◌/◌, ◌<◌, ◌≤◌, Bool, true, false, cond, eqb, refl, mul-le-mul_right, div-lt_iff_lt-mul, mul-le-mul, le-div_iff_mul-le, arith}
+use Rattle.std.proofs.Common.{◌≡◌, ℕ, ◌+◌, ◌-◌, ◌*◌, ◌/◌, ◌<◌, ◌≤◌, Bool, true, false, cond, eqb, refl, mul-le-mul_right, mul-le-mul, le-div_iff_mul-le, arith}
 use Rattle.std.proofs.lemmas.Bool.{eqb-false}
 use Rattle.rules.specs.Book.{per_wagon}
 use Rattle.rules.specs.Ratio.{ratio, rounded_up}

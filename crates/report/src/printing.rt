@@ -21,12 +21,6 @@ pub fn tell_stop<K: BrakeKind>(
     speed: u32,
     factor: u32,
 ) -> io::Result<()> {
-    let answer = StopAnswer(stop::<K, _>(
-        sheet,
-        &diesel_freight(),
-        place,
-        speed,
-        factor,
-    ));
+    let answer = StopAnswer(stop::<K, _>(sheet, &diesel_freight(), place, speed, factor));
     println!(rt; "{label}: {answer}")
 }

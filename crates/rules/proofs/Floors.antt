@@ -1,5 +1,5 @@
 -- Signed fractions rounded down and up. An integer z is read as up z less down z, so that its order is one of naturals.
-use Rattle.std.proofs.Common.{◌≡◌, ℕ, zero, suc, ◌+◌, ◌*◌, ◌/◌, ◌%◌, ◌<◌, ◌≤◌, min, ℤ, pos, negsuc, ◌+ℤ◌, ◌*ℤ◌, neg_ℤ, sym, refl, ap, ◌∙◌, lt_of_mul-lt-mul_right, div-add-mod', div-mul-le_self, arith}
+use Rattle.std.proofs.Common.{◌≡◌, ℕ, zero, suc, ◌+◌, ◌*◌, ◌/◌, ◌%◌, ◌<◌, ◌≤◌, min, ℤ, pos, negsuc, ◌+ℤ◌, ◌*ℤ◌, neg_ℤ, ap, ◌∙◌, lt_of_mul-lt-mul_right, div-add-mod', div-mul-le_self, arith}
 use native.Mathlib.Nat.{lt-div-mul-add}
 use borrow.Author.Differences.{up, down, same_in, sum_is_lem, product_is, neg_is}
 use Rattle.rules.specs.Fraction.{floored}

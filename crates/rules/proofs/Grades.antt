@@ -1,11 +1,10 @@
 -- The grades of a section by whole numbers: 100 i is whole, so that only the curve's part is rounded.
-use Rattle.std.proofs.Common.{◌≡◌, ℕ, ◌+◌, ◌*◌, ◌/◌, ◌%◌, ◌<◌, ◌≤◌, min, Bool, true, false, cond, ◌&&◌, eqb, leb, ℤ, pos, ◌+ℤ◌, ◌*ℤ◌, sym, refl, ap, ◌∙◌, subst, mul-le-mul, mul-pos, arith}
+use Rattle.std.proofs.Common.{◌≡◌, ℕ, ◌+◌, ◌*◌, ◌/◌, ◌%◌, ◌≤◌, min, Bool, true, false, cond, ◌&&◌, eqb, leb, ℤ, pos, ◌+ℤ◌, ◌*ℤ◌, ap, mul-le-mul, arith}
 use Rattle.std.specs.Int.{int_max}
 use Rattle.std.proofs.lemmas.Bool.{and_parts, leb-true, eq-eqb, ne_eqb}
 use Rattle.rules.specs.declared.figures.SectionFigures.{SectionFigures}
-use Rattle.rules.specs.Fraction.{Fraction, floor, ceiling}
-use Rattle.rules.specs.Grade.{grade, low_grade, high_grade}
-use Rattle.rules.specs.Ratio.{ratio, rounded_down, rounded_up}
+use Rattle.rules.specs.Grade.{low_grade, high_grade}
+use Rattle.rules.specs.Ratio.{ratio, rounded_up}
 use Rattle.rules.specs.Questions.{lawful_curve}
 use Rattle.rules.proofs.Floors.{floor_shift, ceiling_shift, floor_whole, ceiling_whole}
 use Rattle.rules.proofs.Ratios.{up_least}

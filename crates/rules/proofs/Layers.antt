@@ -1,8 +1,8 @@
 -- Layers keep the facts of a law: what is read of one value is read of its share, of a blend and of the lesser of two, and the
 -- order of exact values stays.
-use Rattle.std.proofs.Common.{◌≡◌, ℕ, ◌+◌, ◌*◌, ◌≤◌, min, max, Bool, true, false, cond, leb, refl, mul-le-mul_right, mul-le-mul, mul-le-mul_left, mul-pos, mul_left_comm, arith}
+use Rattle.std.proofs.Common.{ℕ, ◌+◌, ◌*◌, ◌≤◌, min, max, leb, mul-le-mul_right, mul-le-mul, mul-le-mul_left, mul-pos, mul_left_comm, arith}
 use Rattle.std.proofs.lemmas.Bool.{leb-true, leb-false, cond_both}
-use Rattle.rules.specs.Ratio.{Ratio, ratio, AtMost, rounded_down, rounded_up}
+use Rattle.rules.specs.Ratio.{Ratio, ratio, AtMost}
 use Rattle.rules.specs.Law.{Reads}
 use Rattle.rules.specs.Layers.{PercentRange, percent_of, percent_down, percent_up, percent_slack, BlendRange, blend_of, blend_down, blend_up, blend_slack, smaller_of, smaller_whole, smaller_slack}
 use Rattle.rules.proofs.Ratios.{down_under, up_over, up_least, up_near, at_most_trans, whole_over}

@@ -1,9 +1,9 @@
 -- Pull tables: the exact pull is a ratio of at most 1,000,000 that never rises with speed.
-use Rattle.std.proofs.Common.{◌≡◌, ℕ, zero, suc, ◌+◌, ◌-◌, ◌*◌, ◌<◌, ◌≤◌, Bool, true, false, cond, ◌&&◌, eqb, ltb, leb, List, [], ◌∷◌, length, get_or, sym, refl, ap, ◌∙◌, mul-le-mul_right, mul-zero, arith}
+use Rattle.std.proofs.Common.{◌≡◌, ℕ, zero, suc, ◌+◌, ◌-◌, ◌*◌, ◌<◌, ◌≤◌, true, cond, ◌&&◌, eqb, ltb, leb, List, [], ◌∷◌, length, get_or, sym, refl, ap, ◌∙◌, mul-le-mul_right, mul-zero, arith}
 use native.Mathlib.Nat.{sub_self}
 use Rattle.std.proofs.lemmas.Bool.{both_ways, ltb-true, ltb-false, leb-true, leb-false, eqb-true, lt-ltb, le-ltb, le-leb, lt-leb, and_parts, cond-true, cond-false, cond_both}
 use Rattle.rules.specs.declared.figures.PointFigures.{PointFigures}
-use Rattle.rules.specs.Ratio.{Ratio, ratio, AtMost, rounded_down, rounded_up}
+use Rattle.rules.specs.Ratio.{ratio, AtMost, rounded_down, rounded_up}
 use Rattle.rules.specs.Law.{Reads}
 use Rattle.rules.specs.Table.{may_begin, may_follow, orderly_after, lawful_table, between_points, pull_after, table_pull, GoesThrough}
 use Rattle.rules.proofs.Ratios.{at_most_trans}

@@ -1,5 +1,5 @@
 -- Checked figures: known values of the definitions that the contracts cite.
-use Rattle.std.specs.Prelude.{◌≡◌, ℕ, ℤ, pos, negsuc}
+use Rattle.std.specs.Prelude.{◌≡◌, ℕ, pos, negsuc}
 use Rattle.rules.specs.declared.figures.SectionFigures.{SectionFigures}
 use Rattle.rules.specs.Ratio.{Ratio, rounded_down, rounded_up}
 use Rattle.rules.specs.Law.{Falling}

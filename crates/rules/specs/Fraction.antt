@@ -1,5 +1,5 @@
 -- Exact figures of either sign: fractions whose upper number is signed and whose lower one is at least 1.
-use Rattle.std.specs.Prelude.{ℕ, ◌/◌, ◌≤◌, ℤ, pos, negsuc, neg_ℤ}
+use Rattle.std.specs.Prelude.{ℕ, ◌/◌, ℤ, pos, negsuc, neg_ℤ}
 use borrow.Author.Differences.{up, down}
 
 pub record Fraction : Type 0 where

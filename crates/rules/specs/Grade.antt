@@ -1,5 +1,5 @@
 -- Grades of sections, in milli (thousandths of kgf/t; 1 per mille is 1,000 milli).
-use Rattle.std.specs.Prelude.{ℕ, ◌*◌, Bool, cond, List, [], ◌∷◌, map, ℤ, pos, ◌+ℤ◌, ◌*ℤ◌, ◌==◌}
+use Rattle.std.specs.Prelude.{◌*◌, cond, List, [], ◌∷◌, map, ℤ, pos, ◌+ℤ◌, ◌*ℤ◌, ◌==◌}
 use Rattle.std.specs.Int.{int_min, int_max}
 use Rattle.rules.specs.declared.figures.SectionFigures.{SectionFigures}
 use Rattle.rules.specs.Fraction.{Fraction, fraction, whole, floor, ceiling}

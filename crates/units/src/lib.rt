@@ -1,5 +1,6 @@
 // Wrapped numbers: no figure is taken for one of another unit, and each conversion between units has a name.
 #![tactic(auto)]
+
 pub mod braking;
 pub mod grade;
 pub mod gross;

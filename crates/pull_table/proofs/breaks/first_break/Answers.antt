@@ -1,4 +1,4 @@
-use Rattle.std.proofs.Common.{◌≡◌, ◌<◌, length, sym, ap, ◌∙◌, arith, ltb-false}
+use Rattle.std.proofs.Common.{◌<◌, length, sym, ap, ◌∙◌, arith, ltb-false}
 use Rattle.std.proofs.lemmas.List.{drop_all}
 use Rattle.rules.specs.Table.{breaks_after}
 use Rattle.rules.proofs.Breaks.{no_break, break_says, begins_as, goes_on_as}

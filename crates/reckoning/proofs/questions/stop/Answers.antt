@@ -3,7 +3,6 @@ use Rattle.sheet.specs.Sheets.{book_of}
 use Rattle.rules.specs.Questions.{stopping, stop_figures}
 use Rattle.rules.specs.Refusals.{Reply, first_no, decide}
 use Rattle.rules.specs.Stop.{Approach, approach_at}
-use Rattle.reckoning.specs.Approaches.{approach_of}
 use Rattle.reckoning.proofs.Asking.{approached}
 use Rattle.reckoning.proofs.questions.stop.Goals as goal
 

@@ -1,4 +1,4 @@
-use Rattle.std.proofs.Common.{arith, rules}
+use Rattle.std.proofs.Common.{rules}
 use Rattle.rules.proofs.Grades.{curve_says, run_wide}
 use Rattle.line.proofs.section.Section.length_by_radius.Goals as goal
 

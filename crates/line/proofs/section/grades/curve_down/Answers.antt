@@ -1,5 +1,5 @@
-use Rattle.std.proofs.Common.{◌≡◌, ◌*◌, ◌/◌, ◌≤◌, ap, arith, rules}
-use Rattle.std.proofs.lemmas.Int.{ints, to_z_pos}
+use Rattle.std.proofs.Common.{◌≡◌, ◌*◌, ◌/◌, ap, arith}
+use Rattle.std.proofs.lemmas.Int.{ints}
 use Rattle.rules.proofs.Grades.{bend_small}
 use Rattle.line.proofs.section.grades.curve_down.Goals as goal
 

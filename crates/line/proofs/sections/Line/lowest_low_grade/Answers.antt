@@ -1,6 +1,5 @@
 use Rattle.std.proofs.Common.{◌≡◌, ℕ, ◌+◌, ◌≤◌, List, map, length, sym, refl, ap, ◌∙◌, arith}
 use Rattle.units.specs.declared.grade.Grade.{Grade}
-use Rattle.rules.specs.declared.figures.SectionFigures.{SectionFigures}
 use Rattle.rules.specs.Grade.{lowest_low_grade}
 use Rattle.rules.specs.Window.{window}
 use Rattle.line.specs.declared.section.Section.{Section}

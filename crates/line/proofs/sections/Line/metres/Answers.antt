@@ -1,4 +1,4 @@
-use Rattle.std.proofs.Common.{◌≡◌, ◌+◌, ◌≤◌, arith}
+use Rattle.std.proofs.Common.{◌≡◌, ◌+◌, arith}
 use Rattle.line.specs.declared.section.Section.{Section}
 use Rattle.rules.proofs.Tables.{counted_more, counted_all}
 use Rattle.line.proofs.sections.Line.metres.Goals as goal

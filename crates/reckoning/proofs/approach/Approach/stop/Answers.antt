@@ -1,4 +1,4 @@
-use Rattle.std.proofs.Common.{arith, rules}
+use Rattle.std.proofs.Common.{arith}
 use Rattle.reckoning.proofs.approach.Approach.stop.Goals as goal
 
 pub overflow_add-distance : goal.overflow_add-distance

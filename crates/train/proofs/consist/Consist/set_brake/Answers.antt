@@ -1,4 +1,4 @@
-use Rattle.std.proofs.Common.{◌<◌, length, vec_items, arith, rules}
+use Rattle.std.proofs.Common.{◌<◌, length, vec_items, rules}
 use Rattle.rules.proofs.Tables.{there, not_there}
 use Rattle.train.proofs.Trains.{set_brake, only_brake, same_brakes}
 use Rattle.train.proofs.consist.Consist.set_brake.Goals as goal

@@ -1,4 +1,4 @@
-use Rattle.std.proofs.Common.{◌≡◌, ℕ, ◌+◌, ◌≤◌, length, arith}
+use Rattle.std.proofs.Common.{◌≤◌, length, arith}
 use Rattle.rules.specs.Book.{is_locomotive}
 use Rattle.train.specs.Vehicles.{vehicle_of}
 use Rattle.rules.proofs.Tables.{counted_more, counted_all}

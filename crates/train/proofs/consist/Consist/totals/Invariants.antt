@@ -1,4 +1,4 @@
-use Rattle.std.proofs.Common.{◌≡◌, ℕ, ◌+◌, map, drop, vec_items}
+use Rattle.std.proofs.Common.{◌≡◌, ◌+◌, map, drop}
 use Rattle.rules.specs.Book.{locomotives, wagons, hauling_mass, trailing_mass, brake_pressure}
 use Rattle.train.specs.Vehicles.{vehicle_of}
 use Rattle.train.proofs.consist.Consist.totals.Given as goal

@@ -1,4 +1,4 @@
-use Rattle.std.proofs.Common.{ℕ, ◌-◌, map, take, vec_items, sym, ap, ◌∙◌, arith, rules}
+use Rattle.std.proofs.Common.{ℕ, ◌-◌, map, take, vec_items, ap, ◌∙◌, rules}
 use Rattle.train.specs.Vehicles.{vehicle_of}
 use Rattle.train.proofs.Trains.{without_last}
 use Rattle.rules.proofs.Tables.{there}
