@@ -308,6 +308,10 @@ def refusals():
     for metres in (399, 400, 4000, 4001):
         tell(f"set {metres}", s.set_distance, metres)
 
+    print("laws")
+    for a in [(100_000_000, 1_000_000, 10_000), (100_000_001, 0, 0), (0, 1_000_001, 0), (0, 0, 10_001)]:
+        tell("quadratic drag " + " ".join(map(str, a)), quadratic, *a)
+
     print("stops")
     for place, v, g in [(4_000_001, 100, 10), (0, 1601, 10), (0, 100, 0), (0, 100, 11), (2000, 100, 10), (2001, 100, 10)]:
         tell(f"stop {place} {v} {g}", sample(0).stop, "F", place, v, g)
@@ -320,6 +324,13 @@ def refusals():
 
 
 def figures():
+    print("laws, below and above")
+    read("cast iron", cast_iron, [0, 500, 1600])
+    read("wagon drag", wagon_drag, [(500, 600), (0, 50), (1600, 2000)])
+    for v in (0, 123, 500):
+        _, below, above, _ = df4(v, 600)
+        print(f"DF4 at {v}: {below} {above}")
+
     print("kinds of brake, T and c")
     for k in "FPEHJ":
         print(f"{k}: {KINDS[k][0]} {KINDS[k][1]}")
