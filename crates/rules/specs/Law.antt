@@ -4,7 +4,7 @@
 use Rattle.std.specs.Prelude.{ℕ, ◌+◌, ◌*◌, ◌≤◌}
 use Rattle.rules.specs.Ratio.{Ratio, AtMost, rounded_down, rounded_up}
 
--- below ≤ exact ≤ above ≤ 1,000,000, and the whole values are no further apart than the slack
+-- below ≤ exact ≤ above ≤ 1,000,000, and above exceeds below by at most the slack
 pub record Reads (exact : Ratio) (below above slack : ℕ) : Type 0 where
   pub proper : 1 ≤ exact.den
   pub under : below * exact.den ≤ exact.num

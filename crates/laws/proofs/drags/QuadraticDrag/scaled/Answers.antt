@@ -19,5 +19,5 @@ overflow_add-result c = omega (arith, small c)
 pub overflow_add-result-2 : goal.overflow_add-result-2
 overflow_add-result-2 c = omega (arith, small c)
 
-pub returns : goal.returns
-returns c = record { value = cc; cap = small c }
+pub returns-clause-cap : goal.returns-clause-cap
+returns-clause-cap c = small c
