@@ -1,55 +1,44 @@
-use laws::{CastIron, DragLaw, FallingLaw, KindLetter, QuadraticDrag, WagonDrag, constants_of};
+use laws::{CastIron, KindLetter, Law, QuadraticDrag, Reading, Running, WagonDrag, constants_of};
+use report::tell_readings;
 use std::io;
-use units::{Gross, Speed};
+use units::Speed;
 
 /// Cast iron friction, below and above.
 pub fn friction(rt: &HostRuntime) -> io::Result<()> {
     println!(rt; "laws, below and above")?;
-    for tenths in [0, 500, 1600] {
-        let v = Speed::capped(tenths);
-        let below = CastIron.below(v).millionths();
-        let above = CastIron.above(v).millionths();
-        println!(rt; "cast iron at {tenths}: {below} {above}")?;
-    }
-    Ok(())
+    tell_readings(
+        rt,
+        "cast iron",
+        &CastIron,
+        &[0, 500, 1600].map(|tenths| Speed::from_tenths(tenths)),
+    )
 }
 
 /// Wagon drag and the drag of the DF4, below and above.
 pub fn drags(rt: &HostRuntime) -> io::Result<()> {
-    for (tenths, mass) in [(500, 600), (0, 50), (1600, 2000)] {
-        let Some(q) = Gross::from_tenths(mass) else {
-            continue;
-        };
-        let (below, above) = both(&WagonDrag, Speed::capped(tenths), q);
-        println!(rt; "wagon drag at {tenths}, {mass}: {below} {above}")?;
-    }
-    for tenths in [0, 123, 500] {
-        let Some(q) = Gross::from_tenths(600) else {
-            continue;
-        };
-        let (below, above) = both(&QuadraticDrag::df4(), Speed::capped(tenths), q);
-        println!(rt; "DF4 at {tenths}: {below} {above}")?;
+    let places = [(500, 600), (0, 50), (1600, 2000)].map(|(v, q)| Running::from_tenths(v, q));
+    tell_readings(rt, "wagon drag", &WagonDrag, &places)?;
+    for speed in [0, 123, 500] {
+        if let Some(at) = Running::from_tenths(speed, 600) {
+            let Reading { below, above } = QuadraticDrag::df4().read(at);
+            println!(rt; "DF4 at {speed}: {below} {above}")?;
+        }
     }
     Ok(())
-}
-
-// Both values of a drag, in milli.
-fn both<D: DragLaw>(drag: &D, v: Speed, q: Gross) -> (u32, u32) {
-    (drag.below(v, q).milli(), drag.above(v, q).milli())
 }
 
 /// The constants of the five kinds of brake.
 pub fn kinds(rt: &HostRuntime) -> io::Result<()> {
     println!(rt; "kinds of brake, T and c")?;
-    for (letter, kind) in [
-        ('F', KindLetter::F),
-        ('P', KindLetter::P),
-        ('E', KindLetter::E),
-        ('H', KindLetter::H),
-        ('J', KindLetter::J),
+    for kind in [
+        KindLetter::F,
+        KindLetter::P,
+        KindLetter::E,
+        KindLetter::H,
+        KindLetter::J,
     ] {
         let (t, c) = constants_of(kind);
-        println!(rt; "{letter}: {t} {c}")?;
+        println!(rt; "{kind}: {t} {c}")?;
     }
     Ok(())
 }

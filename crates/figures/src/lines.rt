@@ -12,18 +12,18 @@ pub fn grades(rt: &HostRuntime) -> io::Result<()> {
         (12, 0, 0),
         (-12, 0, 0),
     ] {
-        let Some(section) = Section::of(SectionFigures {
+        let figures = SectionFigures {
             metres: 500,
             gradient,
             curve,
             radius,
             stop: 0,
-        }) else {
-            continue;
         };
-        let low = section.low_grade().milli();
-        let high = section.high_grade().milli();
-        println!(rt; "section 500 {gradient} {curve} {radius} 0: {low} {high}")?;
+        if let Ok(section) = Section::try_from(figures) {
+            let low = section.low_grade();
+            let high = section.high_grade();
+            println!(rt; "section {figures}: {low} {high}")?;
+        }
     }
     Ok(())
 }

@@ -1,7 +1,7 @@
-use laws::{ElectroPneumatic, Freight, FreightByHand, Passenger, PassengerByHand};
+use laws::{ElectroPneumatic, Freight, FreightByHand, NoPull, Passenger, PassengerByHand};
 use reckoning::stop;
-use report::{StopAnswer, diesel_freight, example_sheet, stop_of_example, tell_stop};
-use rules::{SectionFigures, VehicleFigures};
+use report::{Outcome, diesel, example_sheet, stop_of_example, tell_stop};
+use rules::{SectionFigures, StopQuestion, VehicleFigures};
 use sheet::Sheet;
 use std::io;
 
@@ -10,7 +10,7 @@ pub fn example_train(rt: &HostRuntime) -> io::Result<()> {
     println!(rt; "stops of the example train")?;
     for (gradient, speed) in [(-100, 100), (0, 100), (100, 100), (0, 0)] {
         let sheet = example_sheet(rt.alloc(), gradient)?;
-        let answer = StopAnswer(stop_of_example(&sheet, speed));
+        let answer = Outcome(stop_of_example(&sheet, speed));
         println!(rt; "gradient {gradient}, speed {speed}: {answer}")?;
     }
     Ok(())
@@ -19,49 +19,38 @@ pub fn example_train(rt: &HostRuntime) -> io::Result<()> {
 /// One stop by each kind of brake.
 pub fn by_kind(rt: &HostRuntime) -> io::Result<()> {
     let sheet = example_sheet(rt.alloc(), -20)?;
-    tell_stop::<Freight>(rt, "kind F, gradient -20, speed 350", &sheet, 0, 350, 10)?;
-    tell_stop::<Passenger>(rt, "kind P, gradient -20, speed 350", &sheet, 0, 350, 10)?;
-    tell_stop::<ElectroPneumatic>(rt, "kind E, gradient -20, speed 350", &sheet, 0, 350, 10)?;
-    tell_stop::<FreightByHand>(rt, "kind H, gradient -20, speed 350", &sheet, 0, 350, 10)?;
-    tell_stop::<PassengerByHand>(rt, "kind J, gradient -20, speed 350", &sheet, 0, 350, 10)
+    let question = StopQuestion::full_braking(0, 350);
+    tell_stop::<Freight, _>(rt, "kind F, gradient -20, speed 350", &sheet, question)?;
+    tell_stop::<Passenger, _>(rt, "kind P, gradient -20, speed 350", &sheet, question)?;
+    tell_stop::<ElectroPneumatic, _>(rt, "kind E, gradient -20, speed 350", &sheet, question)?;
+    tell_stop::<FreightByHand, _>(rt, "kind H, gradient -20, speed 350", &sheet, question)?;
+    tell_stop::<PassengerByHand, _>(rt, "kind J, gradient -20, speed 350", &sheet, question)
 }
 
 /// A window that ends with the line, and one that begins at the end of a steep section and one metre behind it.
 pub fn window_ends(rt: &HostRuntime) -> io::Result<()> {
     println!(rt; "the ends of the window")?;
     let mut sheet = example_sheet(rt.alloc(), -150)?;
-    let _ = sheet.append(SectionFigures {
-        metres: 1001,
-        gradient: 0,
-        curve: 0,
-        radius: 0,
-        stop: 0,
-    });
-    tell_stop::<Freight>(rt, "from the end of the fall", &sheet, 3000, 100, 10)?;
-    tell_stop::<Freight>(
-        rt,
-        "one metre behind it, to the line's end",
-        &sheet,
-        3001,
-        100,
-        10,
-    )
+    let _ = sheet.append(SectionFigures::straight(1001, 0));
+    for (label, place) in [
+        ("from the end of the fall", 3000),
+        ("one metre behind it, to the line's end", 3001),
+    ] {
+        tell_stop::<Freight, _>(rt, label, &sheet, StopQuestion::full_braking(place, 100))?;
+    }
+    Ok(())
 }
 
 // A train whose third vehicle is cut out, on curved sections that fall more and more.
 fn falling(rt: &HostRuntime) -> io::Result<Sheet> {
     let mut sheet = Sheet::new(rt.alloc())?;
-    let _ = sheet.couple(VehicleFigures {
-        letter: 'L',
-        mass: 1000,
-        pressure: 400,
-    });
-    for (mass, pressure) in [(600, 200), (613, 170), (587, 3)] {
-        let _ = sheet.couple(VehicleFigures {
-            letter: 'W',
-            mass,
-            pressure,
-        });
+    for (letter, mass, pressure) in [
+        ('L', 1000, 400),
+        ('W', 600, 200),
+        ('W', 613, 170),
+        ('W', 587, 3),
+    ] {
+        let _ = sheet.couple(VehicleFigures::new(letter, mass, pressure));
     }
     let _ = sheet.cut_out(2);
     for (metres, gradient, curve, radius) in [
@@ -70,11 +59,9 @@ fn falling(rt: &HostRuntime) -> io::Result<Sheet> {
         (9000, -90, 0, 0),
     ] {
         let _ = sheet.append(SectionFigures {
-            metres,
-            gradient,
             curve,
             radius,
-            stop: 0,
+            ..SectionFigures::straight(metres, gradient)
         });
     }
     let _ = sheet.set_distance(3000);
@@ -93,7 +80,12 @@ pub fn long_stops(rt: &HostRuntime) -> io::Result<()> {
         (500, 551),
         (500, 550),
     ] {
-        let answer = StopAnswer(stop::<Freight, _>(&sheet, &diesel_freight(), place, speed, 9));
+        let question = StopQuestion {
+            place,
+            speed,
+            factor: 9,
+        };
+        let answer = Outcome(stop::<Freight, _>(&sheet, &diesel(NoPull), question));
         println!(rt; "place {place}, speed {speed}: {answer}")?;
     }
     Ok(())
@@ -102,17 +94,16 @@ pub fn long_stops(rt: &HostRuntime) -> io::Result<()> {
 /// A stop without wagons.
 pub fn alone(rt: &HostRuntime) -> io::Result<()> {
     let mut sheet = Sheet::new(rt.alloc())?;
-    let _ = sheet.couple(VehicleFigures {
-        letter: 'L',
-        mass: 1380,
-        pressure: 420,
-    });
+    let _ = sheet.couple(VehicleFigures::new('L', 1380, 420));
     let _ = sheet.append(SectionFigures {
-        metres: 5000,
-        gradient: -40,
         curve: 300,
         radius: 250,
-        stop: 0,
+        ..SectionFigures::straight(5000, -40)
     });
-    tell_stop::<ElectroPneumatic>(rt, "locomotive alone, speed 500", &sheet, 100, 500, 6)
+    let question = StopQuestion {
+        place: 100,
+        speed: 500,
+        factor: 6,
+    };
+    tell_stop::<ElectroPneumatic, _>(rt, "locomotive alone, speed 500", &sheet, question)
 }

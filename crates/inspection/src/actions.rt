@@ -1,75 +1,48 @@
 use crate::show::show_sheet;
 use laws::BrakeKind;
-use reckoning::stop;
-use report::{Outcome, StopAnswer, diesel_freight};
-use rules::{SectionFigures, VehicleFigures};
+use report::{Outcome, tell, tell_stop};
+use rules::{Refusal, StopQuestion};
 use sheet::Sheet;
-use std::io;
+use std::{fmt, io};
 
-/// Couples a vehicle at the rear.
-pub fn couple(
-    rt: &HostRuntime,
-    sheet: &mut Sheet,
-    letter: char,
-    mass: u32,
-    pressure: u32,
-) -> io::Result<()> {
-    let outcome = Outcome(sheet.couple(VehicleFigures {
-        letter,
-        mass,
-        pressure,
-    }));
-    println!(rt; "couple {letter} {mass} {pressure}: {outcome}")?;
+/// What is done to a sheet, and the figures that it is done with.
+#[derive(Drop)]
+pub struct Call<T>(pub &'static str, pub T);
+
+impl<T: fmt::Display> fmt::Display for Call<T> {
+    fn fmt<W: fmt::Write>(&self, f: &mut fmt::Formatter<W>) -> fmt::Result {
+        write!(f, "{} {}", self.0, self.1)
+    }
+}
+
+/// Changes the sheet, and tells what that came to and the sheet after it.
+pub fn change<L, F>(rt: &HostRuntime, sheet: &mut Sheet, label: L, edit: F) -> io::Result<()>
+where
+    L: fmt::Display + Drop,
+    F: FnOnce(&mut Sheet) -> Result<(), Refusal>,
+    requires { F.IsAlwaysCallable edit }
+{
+    tell(rt, label, Outcome::of(edit(sheet)))?;
     show_sheet(rt, sheet)
 }
 
-/// Uncouples the rear vehicle.
-pub fn uncouple(rt: &HostRuntime, sheet: &mut Sheet) -> io::Result<()> {
-    let outcome = Outcome(sheet.uncouple());
-    println!(rt; "uncouple: {outcome}")?;
-    show_sheet(rt, sheet)
-}
+/// A stop that is asked for by a named brake.
+#[derive(Drop)]
+struct Asked<'a>(&'a str, StopQuestion);
 
-/// Cuts out the brake of vehicle k.
-pub fn cut_out(rt: &HostRuntime, sheet: &mut Sheet, k: usize) -> io::Result<()> {
-    let outcome = Outcome(sheet.cut_out(k));
-    println!(rt; "cut out {k}: {outcome}")?;
-    show_sheet(rt, sheet)
-}
-
-/// Restores the brake of vehicle k.
-pub fn restore(rt: &HostRuntime, sheet: &mut Sheet, k: usize) -> io::Result<()> {
-    let outcome = Outcome(sheet.restore(k));
-    println!(rt; "restore {k}: {outcome}")?;
-    show_sheet(rt, sheet)
-}
-
-/// Appends a straight section that is no stop.
-pub fn append(rt: &HostRuntime, sheet: &mut Sheet, metres: u32, gradient: i32) -> io::Result<()> {
-    let figures = SectionFigures {
-        metres,
-        gradient,
-        curve: 0,
-        radius: 0,
-        stop: 0,
-    };
-    let outcome = Outcome(sheet.append(figures));
-    println!(rt; "append {metres} {gradient} 0 0 0: {outcome}")?;
-    show_sheet(rt, sheet)
-}
-
-/// Lifts all sections.
-pub fn lift(rt: &HostRuntime, sheet: &mut Sheet) -> io::Result<()> {
-    sheet.lift();
-    println!(rt; "lift: passed")?;
-    show_sheet(rt, sheet)
-}
-
-/// Sets the braking distance.
-pub fn set_distance(rt: &HostRuntime, sheet: &mut Sheet, metres: u32) -> io::Result<()> {
-    let outcome = Outcome(sheet.set_distance(metres));
-    println!(rt; "set braking distance {metres}: {outcome}")?;
-    show_sheet(rt, sheet)
+impl<'a> fmt::Display for Asked<'a> {
+    fn fmt<W: fmt::Write>(&self, f: &mut fmt::Formatter<W>) -> fmt::Result {
+        let StopQuestion {
+            place,
+            speed,
+            factor,
+        } = self.1;
+        write!(
+            f,
+            "stop by {} brake, place {place}, speed {speed}, factor {factor}",
+            self.0
+        )
+    }
 }
 
 /// Asks how far the train needs to stop.
@@ -77,10 +50,7 @@ pub fn ask<K: BrakeKind>(
     rt: &HostRuntime,
     sheet: &Sheet,
     brake: &str,
-    place: u32,
-    speed: u32,
-    factor: u32,
+    question: StopQuestion,
 ) -> io::Result<()> {
-    let answer = StopAnswer(stop::<K, _>(sheet, &diesel_freight(), place, speed, factor));
-    println!(rt; "stop by {brake} brake, place {place}, speed {speed}, factor {factor}: {answer}")
+    tell_stop::<K, _>(rt, Asked(brake, question), sheet, question)
 }

@@ -1,4 +1,3 @@
-use rules::{SectionFigures, VehicleFigures};
 use sheet::Sheet;
 use std::io;
 
@@ -10,52 +9,28 @@ pub fn show_sheet(rt: &HostRuntime, sheet: &Sheet) -> io::Result<()> {
     println!(rt; "  braking distance {distance}")
 }
 
+// The train and the line are told by a short loop each, since what is told of an entry differs.
 fn show_train(rt: &HostRuntime, sheet: &Sheet) -> io::Result<()> {
-    if sheet.vehicle_count() == 0 {
+    let vehicles = sheet.consist().vehicles();
+    if vehicles.is_empty() {
         println!(rt; "  no vehicle")?;
     }
-    for k in 0..sheet.vehicle_count() {
-        if let Some(vehicle) = sheet.vehicle(k) {
-            show_vehicle(rt, k, vehicle.figures(), vehicle.braked())?;
-        }
+    for (k, vehicle) in vehicles.iter().enumerate() {
+        let figures = vehicle.figures();
+        let brake = if vehicle.braked() { "in" } else { "out" };
+        println!(rt; "  vehicle {k}: {figures}, brake {brake}")?;
     }
     Ok(())
-}
-
-fn show_vehicle(
-    rt: &HostRuntime,
-    k: usize,
-    figures: VehicleFigures,
-    braked: bool,
-) -> io::Result<()> {
-    let VehicleFigures {
-        letter,
-        mass,
-        pressure,
-    } = figures;
-    let brake = if braked { "in" } else { "out" };
-    println!(rt; "  vehicle {k}: {letter} {mass} {pressure}, brake {brake}")
 }
 
 fn show_line(rt: &HostRuntime, sheet: &Sheet) -> io::Result<()> {
-    if sheet.section_count() == 0 {
+    let sections = sheet.line().sections();
+    if sections.is_empty() {
         println!(rt; "  no section")?;
     }
-    for k in 0..sheet.section_count() {
-        if let Some(section) = sheet.section(k) {
-            show_section(rt, k, section.figures())?;
-        }
+    for (k, section) in sections.iter().enumerate() {
+        let figures = section.figures();
+        println!(rt; "  section {k}: {figures}")?;
     }
     Ok(())
-}
-
-fn show_section(rt: &HostRuntime, k: usize, figures: SectionFigures) -> io::Result<()> {
-    let SectionFigures {
-        metres,
-        gradient,
-        curve,
-        radius,
-        stop,
-    } = figures;
-    println!(rt; "  section {k}: {metres} {gradient} {curve} {radius} {stop}")
 }

@@ -1,3 +1,3 @@
-pub mod Exacts
 pub mod Formulas
 pub mod Kinds
+pub mod Drags

@@ -3,23 +3,21 @@
 
 pub mod adhesion;
 pub mod blocks;
-pub mod composite;
 pub mod drags;
-pub mod exact;
 pub mod kind;
 pub mod law;
 pub mod pull;
+pub mod reading;
 pub mod stock;
 
 pub use adhesion::AdhesionPull;
-pub use blocks::CastIron;
-pub use composite::Composite;
+pub use blocks::{CastIron, Composite};
 pub use drags::{QuadraticDrag, WagonDrag};
-pub use exact::ExactValue;
 pub use kind::{
     BrakeKind, ElectroPneumatic, Freight, FreightByHand, KindLetter, Passenger, PassengerByHand,
     constants_of,
 };
-pub use law::{DragLaw, FallingLaw};
+pub use law::{DragLaw, FallingLaw, Formula, Law, Place, Running};
 pub use pull::NoPull;
+pub use reading::Reading;
 pub use stock::{Locomotive, LocomotiveLaws, Stock, StockLaws};

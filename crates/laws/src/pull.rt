@@ -1,15 +1,18 @@
 ghost use Rattle.rules.specs.Ratio.{ratio};
 ghost use Rattle.std.proofs.Common.{rules};
 
-use crate::law::FallingLaw;
-use units::{Kgf, Speed};
+use crate::law::{FallingLaw, Law};
+use crate::reading::Reading;
+use units::{Amount, KilogramsForce, Speed};
 
 /// The pull of a vehicle without traction: 0 kgf at every speed.
 #[derive(Clone, Copy, Debug)]
 pub struct NoPull;
 
-impl FallingLaw for NoPull {
-    type Unit = Kgf;
+impl Law for NoPull {
+    type Unit = KilogramsForce;
+
+    type Place = Speed;
 
     ghost exact = { λ _ _. ratio 0 1 };
 
@@ -21,13 +24,14 @@ impl FallingLaw for NoPull {
 
     ghost reads = { Prim.search rules };
 
+    fn read(&self, _v: Speed) -> Reading<KilogramsForce> {
+        Reading {
+            below: Amount::new(0),
+            above: Amount::new(0),
+        }
+    }
+}
+
+impl FallingLaw for NoPull {
     ghost falls = { Prim.search rules };
-
-    fn below(&self, _v: Speed) -> Kgf {
-        Kgf::from_kgf(0)
-    }
-
-    fn above(&self, _v: Speed) -> Kgf {
-        Kgf::from_kgf(0)
-    }
 }

@@ -1,8 +1,12 @@
 ghost use Rattle.std.specs.Prelude.{◌≡◌};
-ghost use Rattle.rules.specs.Law.{Falling, Drag, Stock as StockMeaning, LawfulFalling, LawfulDrag, LawfulStock, falling, drag, stock};
+ghost use Rattle.rules.specs.Law.{Falling, Drag, Stock as StockMeaning, LawfulFalling, LawfulDrag, LawfulStock, falling, stock};
+ghost use Rattle.laws.specs.Drags.{drag_by, running};
 
-use crate::law::{DragLaw, FallingLaw};
-use units::{Friction, Gross, Kgf, Milli, Speed};
+use crate::law::{DragLaw, FallingLaw, Running};
+use units::{Friction, KilogramsForce, Milli, Millionths, Speed};
+
+// A stock takes whatever states the laws of a locomotive, and passes its coasting drag on; over the three laws of a `Locomotive`
+// alone it would ask that type of a caller.
 
 /// Whatever states the laws of one locomotive.
 pub trait LocomotiveLaws {
@@ -12,9 +16,9 @@ pub trait LocomotiveLaws {
 
     ghost coasting: { Self → Drag };
 
-    /// The value below its drag when it coasts, at a speed and a gross mass per wagon.
-    fn coasting_below(&self, v: Speed, q: Gross) -> Milli
-        ensures { result.0 ≡ (coasting self.now).below v.tenths q.tenths };
+    /// The value below its drag when it coasts.
+    fn coasting_below(&self, at: Running) -> Milli
+        ensures { result ≡ (coasting self.now).below at.speed at.gross };
 
     ghost lawful: { (e : Self) → LawfulFalling (pull e) × LawfulDrag (pulling e) × LawfulDrag (coasting e) };
 }
@@ -29,27 +33,24 @@ pub struct Locomotive<L, P, C> {
 
 impl<L, P, C> LocomotiveLaws for Locomotive<L, P, C>
 where
-    L: FallingLaw<Unit = Kgf>,
+    L: FallingLaw<Unit = KilogramsForce>,
     P: DragLaw,
     C: DragLaw,
 {
-    ghost pull = { λ e.
-        falling (L.FallingLaw.exact e.pull) (L.FallingLaw.low e.pull) (L.FallingLaw.high e.pull) (L.FallingLaw.slack e.pull) };
+    ghost pull = { λ e. falling (L.exact e.pull) (L.low e.pull) (L.high e.pull) (L.slack e.pull) };
 
-    ghost pulling = { λ e.
-        drag (P.DragLaw.exact e.pulling) (P.DragLaw.low e.pulling) (P.DragLaw.high e.pulling) (P.DragLaw.slack e.pulling) };
+    ghost pulling = { λ e. drag_by (P.exact e.pulling) (P.low e.pulling) (P.high e.pulling) (P.slack e.pulling) };
 
-    ghost coasting = { λ e.
-        drag (C.DragLaw.exact e.coasting) (C.DragLaw.low e.coasting) (C.DragLaw.high e.coasting) (C.DragLaw.slack e.coasting) };
+    ghost coasting = { λ e. drag_by (C.exact e.coasting) (C.low e.coasting) (C.high e.coasting) (C.slack e.coasting) };
 
     ghost lawful = { λ e. (
-      record { reads = L.FallingLaw.reads e.pull; falls = L.FallingLaw.falls e.pull },
-      record { reads = P.DragLaw.reads e.pulling; rises = P.DragLaw.rises e.pulling },
-      record { reads = C.DragLaw.reads e.coasting; rises = C.DragLaw.rises e.coasting },
+      record { reads = L.reads e.pull; falls = L.falls e.pull },
+      record { reads = λ v q h low high. P.reads e.pulling (running v q) (h, low, high); rises = P.rises e.pulling },
+      record { reads = λ v q h low high. C.reads e.coasting (running v q) (h, low, high); rises = C.rises e.coasting },
     ) };
 
-    fn coasting_below(&self, v: Speed, q: Gross) -> Milli {
-        self.coasting.below(v, q)
+    fn coasting_below(&self, at: Running) -> Milli {
+        self.coasting.below(at)
     }
 }
 
@@ -59,15 +60,15 @@ pub trait StockLaws {
 
     /// The value below the brake friction at a speed.
     fn friction_below(&self, v: Speed) -> Friction
-        ensures { result.0 ≡ (meaning self.now).friction.below v.tenths };
+        ensures { result ≡ (meaning self.now).friction.below v };
 
-    /// The value below the drag of a coasting locomotive, at a speed and a gross mass per wagon.
-    fn coasting_below(&self, v: Speed, q: Gross) -> Milli
-        ensures { result.0 ≡ (meaning self.now).coasting.below v.tenths q.tenths };
+    /// The value below the drag of a coasting locomotive.
+    fn coasting_below(&self, at: Running) -> Milli
+        ensures { result ≡ (meaning self.now).coasting.below at.speed at.gross };
 
-    /// The value below the drag of the wagons, at a speed and a gross mass per wagon.
-    fn wagon_below(&self, v: Speed, q: Gross) -> Milli
-        ensures { result.0 ≡ (meaning self.now).wagon.below v.tenths q.tenths };
+    /// The value below the drag of the wagons.
+    fn wagon_below(&self, at: Running) -> Milli
+        ensures { result ≡ (meaning self.now).wagon.below at.speed at.gross };
 
     ghost lawful: { (s : Self) → LawfulStock (meaning s) };
 }
@@ -82,36 +83,36 @@ pub struct Stock<F, E, W> {
 
 impl<F, E, W> StockLaws for Stock<F, E, W>
 where
-    F: FallingLaw<Unit = Friction>,
+    F: FallingLaw<Unit = Millionths>,
     E: LocomotiveLaws,
     W: DragLaw,
 {
     ghost meaning = { λ s. stock
-        (falling (F.FallingLaw.exact s.friction) (F.FallingLaw.low s.friction) (F.FallingLaw.high s.friction) (F.FallingLaw.slack s.friction))
-        (E.LocomotiveLaws.pull s.locomotive)
-        (E.LocomotiveLaws.pulling s.locomotive)
-        (E.LocomotiveLaws.coasting s.locomotive)
-        (drag (W.DragLaw.exact s.wagon) (W.DragLaw.low s.wagon) (W.DragLaw.high s.wagon) (W.DragLaw.slack s.wagon)) };
+        (falling (F.exact s.friction) (F.low s.friction) (F.high s.friction) (F.slack s.friction))
+        (E.pull s.locomotive)
+        (E.pulling s.locomotive)
+        (E.coasting s.locomotive)
+        (drag_by (W.exact s.wagon) (W.low s.wagon) (W.high s.wagon) (W.slack s.wagon)) };
 
     ghost lawful = { λ s.
-        let own = E.LocomotiveLaws.lawful s.locomotive in
+        let own = E.lawful s.locomotive in
         record {
-          friction = record { reads = F.FallingLaw.reads s.friction; falls = F.FallingLaw.falls s.friction };
+          friction = record { reads = F.reads s.friction; falls = F.falls s.friction };
           pull = own.0;
           pulling = own.1;
           coasting = own.2;
-          wagon = record { reads = W.DragLaw.reads s.wagon; rises = W.DragLaw.rises s.wagon };
+          wagon = record { reads = λ v q h low high. W.reads s.wagon (running v q) (h, low, high); rises = W.rises s.wagon };
         } };
 
     fn friction_below(&self, v: Speed) -> Friction {
         self.friction.below(v)
     }
 
-    fn coasting_below(&self, v: Speed, q: Gross) -> Milli {
-        self.locomotive.coasting_below(v, q)
+    fn coasting_below(&self, at: Running) -> Milli {
+        self.locomotive.coasting_below(at)
     }
 
-    fn wagon_below(&self, v: Speed, q: Gross) -> Milli {
-        self.wagon.below(v, q)
+    fn wagon_below(&self, at: Running) -> Milli {
+        self.wagon.below(at)
     }
 }

@@ -4,8 +4,8 @@ ghost use Rattle.std.proofs.Common.{arith};
 ghost use Rattle.rules.proofs.Layers.{smaller_reads, smaller_at_most};
 ghost use Rattle.rules.proofs.Readings.{wider};
 
-use laws::FallingLaw;
-use units::{Quantity, Speed};
+use laws::{FallingLaw, Law, Reading};
+use units::Speed;
 
 /// The lesser of two frictions or of two pulls, at each speed.
 #[derive(Drop)]
@@ -23,29 +23,31 @@ impl<F: FallingLaw, S: FallingLaw<Unit = F::Unit>> Lesser<F, S> {
     }
 }
 
-impl<F: FallingLaw, S: FallingLaw<Unit = F::Unit>> FallingLaw for Lesser<F, S> {
+impl<F: FallingLaw, S: FallingLaw<Unit = F::Unit>> Law for Lesser<F, S> {
     type Unit = F::Unit;
 
-    ghost exact = { λ m v. smaller_of (F.FallingLaw.exact m.first v) (S.FallingLaw.exact m.second v) };
+    type Place = Speed;
 
-    ghost low = { λ m v. smaller_whole (F.FallingLaw.low m.first v) (S.FallingLaw.low m.second v) };
+    ghost exact = { λ m v. smaller_of (F.exact m.first v) (S.exact m.second v) };
 
-    ghost high = { λ m v. smaller_whole (F.FallingLaw.high m.first v) (S.FallingLaw.high m.second v) };
+    ghost low = { λ m v. smaller_whole (F.low m.first v) (S.low m.second v) };
 
-    ghost slack = { λ m. smaller_slack (F.FallingLaw.slack m.first) (S.FallingLaw.slack m.second) };
+    ghost high = { λ m v. smaller_whole (F.high m.first v) (S.high m.second v) };
 
-    ghost reads = { λ l v h. wider _ (smaller_reads (F.FallingLaw.reads l.first v h) (S.FallingLaw.reads l.second v h)) (omega arith) };
+    ghost slack = { λ m. smaller_slack (F.slack m.first) (S.slack m.second) };
 
-    ghost falls = { λ l v w h k.
-        let one = F.FallingLaw in
-        let two = S.FallingLaw in
-        smaller_at_most _ _ _ _ (one.reads l.first w k).proper (two.reads l.second w k).proper (one.falls l.first v w h k) (two.falls l.second v w h k) };
+    ghost reads = { λ l v h. wider _ (smaller_reads (F.reads l.first v h) (S.reads l.second v h)) (omega arith) };
 
-    fn below(&self, v: Speed) -> F::Unit {
-        F::Unit::of(self.first.below(v).get().min(self.second.below(v).get()))
+    fn read(&self, v: Speed) -> Reading<F::Unit> {
+        let first = self.first.read(v);
+        let second = self.second.read(v);
+        Reading {
+            below: first.below.min(second.below),
+            above: first.above.min(second.above),
+        }
     }
+}
 
-    fn above(&self, v: Speed) -> F::Unit {
-        F::Unit::of(self.first.above(v).get().min(self.second.above(v).get()))
-    }
+impl<F: FallingLaw, S: FallingLaw<Unit = F::Unit>> FallingLaw for Lesser<F, S> {
+    ghost falls = { λ l v w h k. smaller_at_most _ _ _ _ (F.reads l.first w k).proper (S.reads l.second w k).proper (F.falls l.first v w h k) (S.falls l.second v w h k) };
 }

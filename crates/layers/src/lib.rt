@@ -4,7 +4,6 @@
 pub mod blend;
 pub mod lesser;
 pub mod scale;
-mod shares;
 
 pub use blend::Blend;
 pub use lesser::Lesser;

@@ -1,2 +1,3 @@
-mod Lawful
+mod Grades
+mod Lengths
 mod Windows

@@ -1,2 +1,2 @@
-pub mod Sections
-pub mod Lines
+pub mod Curve
+pub mod Section

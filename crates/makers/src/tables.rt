@@ -1,4 +1,3 @@
-use crate::makes::passed;
 use pull_table::{PullTable, first_break};
 use report::Outcome;
 use rules::PointFigures;
@@ -49,7 +48,7 @@ pub fn long_tables(rt: &HostRuntime) -> io::Result<()> {
 
 // The first break, and what the maker answers.
 fn tell(rt: &HostRuntime, label: &str, points: &[PointFigures]) -> io::Result<()> {
-    let outcome = Outcome(passed(PullTable::new(points)));
+    let outcome = Outcome::of(PullTable::new(points));
     match first_break(points) {
         Some(k) => println!(rt; "{label}: breaks at {k}, {outcome}"),
         None => println!(rt; "{label}: no break, {outcome}"),

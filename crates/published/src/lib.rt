@@ -4,7 +4,7 @@
 #[cfg(test)]
 mod tests {
     use laws::{CastIron, Composite, FallingLaw};
-    use units::{Friction, Speed};
+    use units::{Millionths, Speed};
 
     // Speeds in km/h, and the published friction there of cast iron and of composite blocks, in thousandths.
     const PUBLISHED: [(u32, u32, u32); 8] = [
@@ -19,11 +19,11 @@ mod tests {
     ];
 
     // Both values of a friction are within one in the third decimal.
-    fn is_near<F: FallingLaw<Unit = Friction>>(law: &F, kmh: u32, thousandths: u32) -> bool {
+    fn is_near<F: FallingLaw<Unit = Millionths>>(law: &F, kmh: u32, thousandths: u32) -> bool {
         let v = Speed::capped(kmh.saturating_mul(10));
         let published = thousandths.saturating_mul(1000);
-        law.below(v).millionths().abs_diff(published) <= 1000
-            && law.above(v).millionths().abs_diff(published) <= 1000
+        law.below(v).count().abs_diff(published) <= 1000
+            && law.above(v).count().abs_diff(published) <= 1000
     }
 
     #[test]

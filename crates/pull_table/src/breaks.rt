@@ -12,19 +12,18 @@ pub fn first_break(points: &[PointFigures]) -> Option<usize>
     ensures place { result ≡ first_break points.now }
     ensures says { MatchOption result (lawful_table points.now ≡ true) (λ k. BreaksFirst points.now k) }
 {
-    let [first, ..] = points else {
+    let [first, rest @ ..] = points else {
         return Some(0);
     };
     if !can_begin(*first) {
         return Some(0);
     }
     let mut last = *first;
-    for k in 1..points.len() {
-        let next = points[k];
-        if !can_come_next(k, last, next) {
-            return Some(k);
+    for (before, next) in rest.iter().enumerate() {
+        if !can_come_next(before + 1, last, *next) {
+            return Some(before + 1);
         }
-        last = next;
+        last = *next;
     }
     None
 }

@@ -1,55 +1,48 @@
-use laws::{DragLaw, QuadraticDrag, WagonDrag};
+use laws::{QuadraticDrag, Running, WagonDrag};
 use layers::{Blend, Scale};
+use report::tell_readings;
 use std::io;
-use units::{Gross, Speed};
 
 /// Wagons and the DF4.
 pub fn given(rt: &HostRuntime) -> io::Result<()> {
     println!(rt; "drags at a speed and a mass per wagon, below and above")?;
-    read(
+    let df4 = QuadraticDrag::df4();
+    tell_readings(
         rt,
         "wagon drag",
         &WagonDrag,
-        &[(500, 600), (0, 50), (1600, 2000)],
+        &[(500, 600), (0, 50), (1600, 2000)].map(running),
     )?;
-    read(
+    tell_readings(
         rt,
         "DF4",
-        &QuadraticDrag::df4(),
-        &[(0, 600), (123, 600), (500, 600)],
+        &df4,
+        &[(0, 600), (123, 600), (500, 600)].map(running),
     )
 }
 
 /// Shares and blends of them, one upon another.
 pub fn layers(rt: &HostRuntime) -> io::Result<()> {
     if let Ok(share) = Scale::new(WagonDrag, 87) {
-        read(
+        tell_readings(
             rt,
             "87 hundredths of wagon drag",
             &share,
-            &[(500, 600), (0, 50)],
+            &[(500, 600), (0, 50)].map(running),
         )?;
-        if let Ok(mixed) = Blend::of_drags(share, QuadraticDrag::df4(), 2, 5) {
-            read(rt, "that and DF4 2 to 5", &mixed, &[(500, 600), (123, 51)])?;
+        if let Ok(mixed) = Blend::new(share, QuadraticDrag::df4(), 2, 5) {
+            tell_readings(
+                rt,
+                "that and DF4 2 to 5",
+                &mixed,
+                &[(500, 600), (123, 51)].map(running),
+            )?;
         }
     }
     Ok(())
 }
 
-// A drag at some speeds and masses.
-fn read<D: DragLaw>(
-    rt: &HostRuntime,
-    label: &str,
-    law: &D,
-    places: &[(u32, u32)],
-) -> io::Result<()> {
-    for (tenths, mass) in places {
-        if let Some(q) = Gross::from_tenths(*mass) {
-            let v = Speed::capped(*tenths);
-            let below = law.below(v, q).milli();
-            let above = law.above(v, q).milli();
-            println!(rt; "{label} at {tenths}, {mass}: {below} {above}")?;
-        }
-    }
-    Ok(())
+// A train at a speed and a gross mass per wagon, both in tenths.
+fn running((speed, mass): (u32, u32)) -> Option<Running> {
+    Running::from_tenths(speed, mass)
 }

@@ -4,8 +4,8 @@ use laws::{
 use layers::{Blend, Lesser, Scale};
 use pull_table::PullTable;
 use reckoning::stop;
-use report::{StopAnswer, example_sheet, example_table};
-use rules::Refusal;
+use report::{Outcome, example_sheet, example_table};
+use rules::{Refusal, StopQuestion};
 use std::io;
 
 // A stock with layers in the place of every law.
@@ -24,12 +24,12 @@ fn layered_stock() -> Result<Layered, Refusal> {
     let locomotive = Locomotive {
         pull: Lesser::new(example_table(), AdhesionPull::new(1000)?),
         pulling: Scale::new(df4, 99)?,
-        coasting: Blend::of_drags(df4, Scale::new(df4, 95)?, 1, 2)?,
+        coasting: Blend::new(df4, Scale::new(df4, 95)?, 1, 2)?,
     };
     Ok(Stock {
-        friction: Scale::new(Blend::of_falling(CastIron, Composite, 3, 1)?, 97)?,
+        friction: Scale::new(Blend::new(CastIron, Composite, 3, 1)?, 97)?,
         locomotive,
-        wagon: Blend::of_drags(WagonDrag, df4, 9, 1)?,
+        wagon: Blend::new(WagonDrag, df4, 9, 1)?,
     })
 }
 
@@ -39,9 +39,12 @@ pub fn stops(rt: &HostRuntime) -> io::Result<()> {
     let sheet = example_sheet(rt.alloc(), -20)?;
     if let Ok(stock) = layered_stock() {
         for (speed, factor) in [(730, 8), (730, 5), (1200, 10)] {
-            let answer = StopAnswer(stop::<Passenger, Stock<_, _, _>>(
-                &sheet, &stock, 100, speed, factor,
-            ));
+            let question = StopQuestion {
+                place: 100,
+                speed,
+                factor,
+            };
+            let answer = Outcome(stop::<Passenger, _>(&sheet, &stock, question));
             println!(rt; "speed {speed}, factor {factor}: {answer}")?;
         }
     }

@@ -2,7 +2,6 @@
 #![tactic(auto)]
 
 mod drags;
-mod falling;
 mod frictions;
 mod layered;
 mod pulls;

@@ -1,10 +1,10 @@
-use crate::falling::read;
 use laws::AdhesionPull;
 use layers::{Blend, Lesser, Scale};
 use pull_table::PullTable;
-use report::{example_pull, example_table};
+use report::{example_pull, example_table, tell_readings};
 use rules::PointFigures;
 use std::io;
+use units::Speed;
 
 /// Adhesion from the least to the greatest adhesive mass.
 pub fn adhesion(rt: &HostRuntime) -> io::Result<()> {
@@ -12,7 +12,12 @@ pub fn adhesion(rt: &HostRuntime) -> io::Result<()> {
     for mass in [1, 1000, 20_000] {
         if let Ok(adhesion) = AdhesionPull::new(mass) {
             println!(rt; "adhesive mass {mass}")?;
-            read(rt, "adhesion", &adhesion, &[0, 200, 1333])?;
+            tell_readings(
+                rt,
+                "adhesion",
+                &adhesion,
+                &[0, 200, 1333].map(|tenths| Speed::from_tenths(tenths)),
+            )?;
         }
     }
     Ok(())
@@ -20,11 +25,11 @@ pub fn adhesion(rt: &HostRuntime) -> io::Result<()> {
 
 /// Tables at, between and beyond their points.
 pub fn tables(rt: &HostRuntime) -> io::Result<()> {
-    read(
+    tell_readings(
         rt,
         "table of the example",
         &example_table(),
-        &[0, 1, 200, 399, 400, 401],
+        &[0, 1, 200, 399, 400, 401].map(|tenths| Speed::from_tenths(tenths)),
     )?;
     let points = [
         PointFigures::new(0, 40_001),
@@ -32,37 +37,47 @@ pub fn tables(rt: &HostRuntime) -> io::Result<()> {
         PointFigures::new(1000, 7),
     ];
     if let Ok(bent) = PullTable::new(&points) {
-        read(
+        tell_readings(
             rt,
             "table of three points",
             &bent,
-            &[0, 1, 299, 300, 301, 997, 1000, 1001],
+            &[0, 1, 299, 300, 301, 997, 1000, 1001].map(|tenths| Speed::from_tenths(tenths)),
         )?;
     }
     if let Ok(single) = PullTable::new(&[PointFigures::new(0, 500)]) {
-        read(rt, "table of one point", &single, &[0, 1])?;
+        tell_readings(
+            rt,
+            "table of one point",
+            &single,
+            &[0, 1].map(|tenths| Speed::from_tenths(tenths)),
+        )?;
     }
     Ok(())
 }
 
 /// Shares, blends and the lesser of pulls, one upon another.
 pub fn layers(rt: &HostRuntime) -> io::Result<()> {
-    read(
+    tell_readings(
         rt,
         "90 hundredths of the table",
         &example_pull(),
-        &[0, 1, 200, 400],
+        &[0, 1, 200, 400].map(|tenths| Speed::from_tenths(tenths)),
     )?;
     if let Ok(adhesion) = AdhesionPull::new(1000) {
         let least = Lesser::new(example_pull(), adhesion);
-        read(
+        tell_readings(
             rt,
             "the lesser of that and adhesion",
             &least,
-            &[0, 50, 200, 300],
+            &[0, 50, 200, 300].map(|tenths| Speed::from_tenths(tenths)),
         )?;
-        if let Ok(mixed) = Blend::of_falling(least, adhesion, 100, 1) {
-            read(rt, "that and adhesion 100 to 1", &mixed, &[0, 50, 201])?;
+        if let Ok(mixed) = Blend::new(least, adhesion, 100, 1) {
+            tell_readings(
+                rt,
+                "that and adhesion 100 to 1",
+                &mixed,
+                &[0, 50, 201].map(|tenths| Speed::from_tenths(tenths)),
+            )?;
         }
     }
     Ok(())

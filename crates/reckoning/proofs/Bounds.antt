@@ -1,15 +1,9 @@
 -- Products and quotients of the forces stay small.
-use Rattle.std.proofs.Common.{◌≡◌, ℕ, ◌+◌, ◌-◌, ◌*◌, ◌/◌, ◌<◌, ◌≤◌, Bool, true, false, cond, eqb, refl, mul-le-mul_right, mul-le-mul, le-div_iff_mul-le, arith}
+use Rattle.std.proofs.Common.{◌≡◌, ℕ, ◌+◌, ◌*◌, ◌/◌, ◌<◌, ◌≤◌, Bool, true, false, cond, eqb, refl, mul-le-mul, le-div_iff_mul-le, arith}
 use Rattle.std.proofs.lemmas.Bool.{eqb-false}
 use Rattle.rules.specs.Book.{per_wagon}
 use Rattle.rules.specs.Ratio.{ratio, rounded_up}
 use Rattle.rules.proofs.Ratios.{up_least}
-
-pub pressed_small : (g k : ℕ) → g ≤ 10 → k ≤ 240000 → g * k ≤ 2400000
-pressed_small g k h l = mul-le-mul h l
-
-pub pressed_within : (g k m : ℕ) → g ≤ 10 → k ≤ m → g * k ≤ 10 * m
-pressed_within g k m h l = mul-le-mul h l
 
 pub parts_small : (t c b d : ℕ) → t ≤ 60 → c ≤ 2 * t → b < 4294967296 → d < 4294967296 → 1000 * t * b + 1000 * c * d ≤ 180000 * 4294967296
 parts_small t c b d ht hc hb hd =
@@ -22,14 +16,6 @@ parts_small t c b d ht hc hb hd =
 pub delay_small : (v t c b d : ℕ) → v ≤ 1600 → t ≤ 60 → c ≤ 2 * t → b < 4294967296 → d < 4294967296
     → v * (1000 * t * b + 1000 * c * d) ≤ 1600 * (180000 * 4294967296)
 delay_small v t c b d hv ht hc hb hd = mul-le-mul hv (parts_small t c b d ht hc hb hd)
-
-pub square_down : (y z : ℕ) → z ≤ y → z * z ≤ y * y
-square_down y z h = mul-le-mul h h
-
--- no step is longer than one from the highest speed under the least force of all
-pub run_small : (y z n : ℕ) → y ≤ 1600 → 1 ≤ n → rounded_up (ratio (41700 * (y * y - z * z)) n) ≤ 106752000000
-run_small y z n h k =
-    up_least (ratio (41700 * (y * y - z * z)) n) k 106752000000 (omega (arith, mul-le-mul h h, mul-le-mul_right 106752000000 k))
 
 -- a quotient rounded up is at most what is divided
 pub quotient_small : (n d k : ℕ) → 1 ≤ d → n ≤ k → rounded_up (ratio n d) ≤ k

@@ -1,3 +1,3 @@
-mod Asking
-mod Bounds
-mod Brakings
+pub mod Asking
+pub mod Bounds
+pub mod Brakings

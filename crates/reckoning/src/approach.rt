@@ -1,27 +1,113 @@
-ghost use Rattle.std.specs.Prelude.{◌+◌, ◌≤◌};
+ghost use Rattle.std.specs.Prelude.{◌≡◌, ◌+◌, ◌≤◌};
+ghost use Rattle.rules.specs.Book.{per_wagon};
+ghost use Rattle.rules.specs.Questions.{place_in_range, stopping, stop_figures};
+ghost use Rattle.rules.specs.Kind.{kind};
+ghost use Rattle.rules.specs.Refusals.{first_no, decide, stop_reply};
 
-use units::{Grade, Gross};
-
-pub mod forces;
-pub mod place;
-pub mod steps;
-pub mod stop;
+use crate::braking::Braking;
+use laws::{BrakeKind, StockLaws};
+use rules::{Refusal, StopFigures};
+use sheet::Sheet;
+use train::Totals;
+use units::{Grade, Gross, Speed};
 
 /// What a stop reads of the sheet besides its speed: the factor in tenths of full braking, the masses of locomotives and
 /// wagons and the pressure of the brakes in tenths of a tonne, the gross mass per wagon, the braking distance in metres,
 /// and the lowest low grade of the sections that lie in it.
 #[derive(Clone, Copy)]
 pub struct Approach {
-    factor: u32,
-    hauling: u32,
-    trailing: u32,
-    pressure: u32,
-    gross: Gross,
-    reach: u32,
-    lowest: Grade,
+    pub(crate) factor: u32,
+    pub(crate) hauling: u32,
+    pub(crate) trailing: u32,
+    pub(crate) pressure: u32,
+    pub(crate) gross: Gross,
+    pub(crate) reach: u32,
+    pub(crate) lowest: Grade,
     ghost braking: { factor ≤ 10 },
     ghost some: { 1 ≤ hauling },
     ghost light: { hauling + trailing ≤ 240000 },
     ghost pressed: { pressure ≤ hauling + trailing },
     ghost near: { reach ≤ 4000 },
+}
+
+impl Approach {
+    ghost use Rattle.reckoning.specs.Approaches.{approach_of, Approached};
+
+    /// The approach from a place of the sheet, in metres from the start of the line, by a factor in tenths of full braking.
+    pub fn of(sheet: &Sheet, place: u32, factor: u32) -> Result<Approach, Refusal>
+        ensures { Approached sheet.now place factor result }
+    {
+        if !is_in_range(place, factor) {
+            return Err(Refusal::QuestionOutOfRange);
+        }
+        let totals = sheet.consist().totals();
+        if totals.locomotives == 0 {
+            return Err(Refusal::NoLocomotive);
+        }
+        let end = place + sheet.distance();
+        if sheet.line().metres() < end {
+            return Err(Refusal::LineTooShort);
+        }
+        Ok(Approach {
+            factor,
+            hauling: totals.hauling,
+            trailing: totals.trailing,
+            pressure: totals.pressure,
+            gross: mass_per_wagon(totals),
+            reach: sheet.distance(),
+            lowest: sheet.line().lowest_low_grade(place, end),
+        })
+    }
+
+    // Not a model: its value would be the approach of the rules, which holds the laws, and a model's value may hold no functions.
+    /// How the train stops from a speed, by a kind of brake and a stock.
+    pub fn stop<K: BrakeKind, S: StockLaws>(
+        &self,
+        stock: &S,
+        v: Speed,
+    ) -> Result<StopFigures, Refusal>
+        ensures { stop_reply result ≡ decide (first_no (stopping (kind K.T K.C) (approach_of self.now (S.meaning stock.now)) v)) (stop_figures (kind K.T K.C) (approach_of self.now (S.meaning stock.now)) v) }
+    {
+        let train = Braking::new(*self, stock);
+        let brake = train.brake_force(v);
+        if brake.count() < 1000 {
+            return Err(Refusal::WeakBrake);
+        }
+        let run = train.run(v, brake)?;
+        let distance = train.delay::<K>(v, brake) + run.distance;
+        if distance > 1000 * u64::from(self.reach) {
+            return Err(Refusal::StopsTooFar);
+        }
+        Ok(StopFigures {
+            distance: distance as u32,
+            least: run.least as u32,
+            steps: run.steps,
+        })
+    }
+}
+
+// A place up to 4,000,000, and a factor of 1 to 10.
+fn is_in_range(place: u32, factor: u32) -> bool
+    ensures { result ≡ place_in_range place factor }
+{
+    place <= 4_000_000 && (1..=10).contains(&factor)
+}
+
+// The gross mass per wagon at which a stop reads every drag.
+#[tactic(auto, using(crate::proofs::Bounds::per_wagon_range))]
+fn mass_per_wagon(totals: Totals) -> Gross
+    ensures { result ≡ per_wagon totals.trailing totals.wagons }
+{
+    Gross::from_tenths(tenths_per_wagon(totals.trailing, totals.wagons)).unwrap()
+}
+
+// A mass over a number of wagons, rounded up; 5 t without wagons.
+fn tenths_per_wagon(mass: u32, wagons: u32) -> u32
+    ensures { result ≡ per_wagon mass wagons }
+{
+    if wagons == 0 {
+        50
+    } else {
+        mass.div_ceil(wagons)
+    }
 }

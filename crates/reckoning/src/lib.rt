@@ -2,6 +2,8 @@
 #![tactic(auto)]
 
 pub mod approach;
+mod braking;
+mod edges;
 pub mod questions;
 mod step;
 

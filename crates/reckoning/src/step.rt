@@ -1,13 +1,61 @@
-ghost use Rattle.std.specs.Prelude.{◌≤◌};
+ghost use Rattle.std.specs.Prelude.{◌≡◌, ◌≤◌};
+ghost use Rattle.rules.specs.Stop.{step, braking_run};
 
+use std::marker::Model;
 use units::Speed;
-
-pub mod edges;
 
 /// One step of a stop: from a speed down to the next lower edge.
 #[derive(Clone, Copy)]
-pub struct Step {
+pub(crate) struct Step {
     top: Speed,
     bottom: Speed,
-    ghost down: { bottom.tenths ≤ top.tenths },
+}
+
+impl Model for Step {
+    ghost use Rattle.std.specs.Prelude.{◌≤◌};
+    ghost use Rattle.rules.specs.Stop.{Step as RuleStep, step};
+
+    ghost Value = { RuleStep };
+
+    ghost view = { λ s. step s.top s.bottom };
+
+    ghost invariant = { λ s. s.bottom ≤ s.top };
+
+    ghost inverse = { λ s. record { top = s.top; bottom = s.bottom } };
+}
+
+impl Step {
+    // From a speed down to one that is not higher.
+    pub(crate) fn new(top: Speed, bottom: Speed) -> Step
+        requires { bottom ≤ top }
+        ensures { result ≡ step top bottom }
+    {
+        Step { top, bottom }
+    }
+
+    // The speed at which the step begins.
+    pub(crate) fn top(self) -> Speed
+        ensures { result ≡ self.top }
+    {
+        self.top
+    }
+
+    // The speed at which the step ends.
+    pub(crate) fn bottom(self) -> Speed
+        ensures { result ≡ self.bottom }
+    {
+        self.bottom
+    }
+
+    // The distance in millimetres of the step under a force in milli.
+    #[tactic(auto, unfolding(rules::specs::Stop::braking_run))]
+    pub(crate) fn run(self, force: u64) -> u64
+        requires { 1 ≤ force }
+        ensures value { result ≡ braking_run self force }
+        ensures small { result ≤ 106752000000 }
+    {
+        let top = u64::from(self.top.tenths());
+        let bottom = u64::from(self.bottom.tenths());
+        (41_700 * (top * top - bottom * bottom)).div_ceil(force)
+    }
 }

@@ -21,14 +21,15 @@ pub fn sections(rt: &HostRuntime) -> io::Result<()> {
         (1, -400, 1, 100, 1),
         (20000, 400, 20000, 20000, 0),
     ] {
-        let outcome = Outcome(sheet.append(SectionFigures {
+        let figures = SectionFigures {
             metres,
             gradient,
             curve,
             radius,
             stop,
-        }));
-        println!(rt; "append {metres} {gradient} {curve} {radius} {stop}: {outcome}")?;
+        };
+        let outcome = Outcome::of(sheet.append(figures));
+        println!(rt; "append {figures}: {outcome}")?;
     }
     Ok(())
 }
@@ -36,18 +37,12 @@ pub fn sections(rt: &HostRuntime) -> io::Result<()> {
 /// A line of 200 sections.
 pub fn long_line(rt: &HostRuntime) -> io::Result<()> {
     let mut sheet = Sheet::new(rt.alloc())?;
-    let level = SectionFigures {
-        metres: 100,
-        gradient: 0,
-        curve: 0,
-        radius: 0,
-        stop: 0,
-    };
+    let level = SectionFigures::straight(100, 0);
     for _ in 0..199 {
         let _ = sheet.append(level);
     }
-    tell(rt, "append section 199", sheet.append(level))?;
-    tell(rt, "append section 200", sheet.append(level))
+    tell(rt, "append section 199", Outcome::of(sheet.append(level)))?;
+    tell(rt, "append section 200", Outcome::of(sheet.append(level)))
 }
 
 /// Braking distances inside and outside their range.
@@ -55,7 +50,7 @@ pub fn braking_distances(rt: &HostRuntime) -> io::Result<()> {
     println!(rt; "braking distances")?;
     let mut sheet = Sheet::new(rt.alloc())?;
     for metres in [399, 400, 4000, 4001] {
-        let outcome = Outcome(sheet.set_distance(metres));
+        let outcome = Outcome::of(sheet.set_distance(metres));
         println!(rt; "set {metres}: {outcome}")?;
     }
     Ok(())

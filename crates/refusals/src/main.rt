@@ -1,11 +1,11 @@
 // Every refusal with its number, each beside a call that just passes.
 #![tactic(auto)]
 
-mod drags;
 mod lines;
 mod stops;
 mod trains;
 
+use report::tell_quadratic_drags;
 use std::io;
 
 fn main(rt: HostRuntime) -> io::Result<()> {
@@ -14,7 +14,8 @@ fn main(rt: HostRuntime) -> io::Result<()> {
     lines::sections(&rt)?;
     lines::long_line(&rt)?;
     lines::braking_distances(&rt)?;
-    drags::makers(&rt)?;
+    println!(&rt; "laws")?;
+    tell_quadratic_drags(&rt)?;
     stops::out_of_range(&rt)?;
     stops::weak_brakes(&rt)
 }

@@ -1,6 +1,7 @@
-use laws::Freight;
+use laws::{Freight, NoPull};
 use reckoning::stop;
-use report::{StopAnswer, diesel_freight, example_sheet, tell_stop};
+use report::{Outcome, diesel, example_sheet, tell_stop};
+use rules::StopQuestion;
 use std::io;
 
 /// Stop questions out of their ranges, and beyond the line.
@@ -15,13 +16,12 @@ pub fn out_of_range(rt: &HostRuntime) -> io::Result<()> {
         (2000, 100, 10),
         (2001, 100, 10),
     ] {
-        let answer = StopAnswer(stop::<Freight, _>(
-            &sheet,
-            &diesel_freight(),
+        let question = StopQuestion {
             place,
             speed,
             factor,
-        ));
+        };
+        let answer = Outcome(stop::<Freight, _>(&sheet, &diesel(NoPull), question));
         println!(rt; "stop {place} {speed} {factor}: {answer}")?;
     }
     Ok(())
@@ -29,11 +29,13 @@ pub fn out_of_range(rt: &HostRuntime) -> io::Result<()> {
 
 /// The example train with its brakes cut out on a steep fall, and too fast.
 pub fn weak_brakes(rt: &HostRuntime) -> io::Result<()> {
+    let slow = StopQuestion::full_braking(0, 100);
+    let fast = StopQuestion::full_braking(0, 1600);
     let mut steep = example_sheet(rt.alloc(), -400)?;
     let _ = steep.cut_out(0);
-    tell_stop::<Freight>(rt, "gradient -400, locomotive cut out", &steep, 0, 100, 10)?;
+    tell_stop::<Freight, _>(rt, "gradient -400, locomotive cut out", &steep, slow)?;
     let _ = steep.cut_out(1);
-    tell_stop::<Freight>(rt, "gradient -400, both cut out", &steep, 0, 100, 10)?;
+    tell_stop::<Freight, _>(rt, "gradient -400, both cut out", &steep, slow)?;
     let level = example_sheet(rt.alloc(), 0)?;
-    tell_stop::<Freight>(rt, "speed 1600", &level, 0, 1600, 10)
+    tell_stop::<Freight, _>(rt, "speed 1600", &level, fast)
 }

@@ -1,6 +1,6 @@
 use laws::Freight;
 use report::{Outcome, tell, tell_stop};
-use rules::VehicleFigures;
+use rules::{StopQuestion, VehicleFigures};
 use sheet::Sheet;
 use std::io;
 
@@ -18,12 +18,9 @@ pub fn vehicles(rt: &HostRuntime) -> io::Result<()> {
         ('W', 2000, 2000),
         ('L', 4_294_967_295, 0),
     ] {
-        let outcome = Outcome(sheet.couple(VehicleFigures {
-            letter,
-            mass,
-            pressure,
-        }));
-        println!(rt; "couple {letter} {mass} {pressure}: {outcome}")?;
+        let figures = VehicleFigures::new(letter, mass, pressure);
+        let outcome = Outcome::of(sheet.couple(figures));
+        println!(rt; "couple {figures}: {outcome}")?;
     }
     Ok(())
 }
@@ -31,20 +28,21 @@ pub fn vehicles(rt: &HostRuntime) -> io::Result<()> {
 /// A train of no vehicle, and one of 120 wagons.
 pub fn long_train(rt: &HostRuntime) -> io::Result<()> {
     let mut sheet = Sheet::new(rt.alloc())?;
-    tell(rt, "uncouple from no train", sheet.uncouple())?;
-    tell(rt, "cut out vehicle 0 of none", sheet.cut_out(0))?;
-    let wagon = VehicleFigures {
-        letter: 'W',
-        mass: 600,
-        pressure: 200,
-    };
+    tell(rt, "uncouple from no train", Outcome::of(sheet.uncouple()))?;
+    tell(
+        rt,
+        "cut out vehicle 0 of none",
+        Outcome::of(sheet.cut_out(0)),
+    )?;
+    let wagon = VehicleFigures::new('W', 600, 200);
     for _ in 0..119 {
         let _ = sheet.couple(wagon);
     }
-    tell(rt, "couple vehicle 119", sheet.couple(wagon))?;
-    tell(rt, "couple vehicle 120", sheet.couple(wagon))?;
-    tell(rt, "restore vehicle 119", sheet.restore(119))?;
-    tell(rt, "restore vehicle 120", sheet.restore(120))?;
-    tell(rt, "uncouple vehicle 119", sheet.uncouple())?;
-    tell_stop::<Freight>(rt, "stop without a locomotive", &sheet, 0, 100, 10)
+    tell(rt, "couple vehicle 119", Outcome::of(sheet.couple(wagon)))?;
+    tell(rt, "couple vehicle 120", Outcome::of(sheet.couple(wagon)))?;
+    tell(rt, "restore vehicle 119", Outcome::of(sheet.restore(119)))?;
+    tell(rt, "restore vehicle 120", Outcome::of(sheet.restore(120)))?;
+    tell(rt, "uncouple vehicle 119", Outcome::of(sheet.uncouple()))?;
+    let question = StopQuestion::full_braking(0, 100);
+    tell_stop::<Freight, _>(rt, "stop without a locomotive", &sheet, question)
 }

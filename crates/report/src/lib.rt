@@ -5,9 +5,6 @@ pub mod outcome;
 pub mod printing;
 pub mod sample;
 
-pub use outcome::{Outcome, StopAnswer};
-pub use printing::{tell, tell_stop};
-pub use sample::{
-    DieselByTable, DieselFreight, diesel_by_table, diesel_freight, example_pull, example_sheet,
-    example_table, stop_of_example,
-};
+pub use outcome::{Outcome, Passed};
+pub use printing::{tell, tell_quadratic_drags, tell_readings, tell_stop};
+pub use sample::{Diesel, diesel, example_pull, example_sheet, example_table, stop_of_example};

@@ -1,38 +1,43 @@
-ghost use Rattle.report.specs.Printed.{outcome_text, answer_text};
-ghost use Rattle.std.specs.Prelude.{Some};
+ghost use Rattle.report.specs.Printed.{outcome_text};
+ghost use Rattle.rules.specs.Refusals.{told};
+ghost use Rattle.std.specs.Prelude.{◌≡◌, Some, codes};
 
 use rules::Refusal;
 use std::fmt;
 
-/// What a call without figures came to: `passed`, or `refused` and the number.
+/// What a call came to: what it answers, or `refused` and the number.
 #[derive(Drop)]
-pub struct Outcome(pub Result<(), Refusal>);
+pub struct Outcome<T>(pub Result<T, Refusal>);
 
-impl fmt::Display for Outcome {
-    ghost output = { λ x. Some (outcome_text x.0) };
+/// What a call without figures answers: `passed`.
+#[derive(Clone, Copy, PartialEq, Eq, Debug)]
+pub struct Passed;
+
+impl<T: fmt::Display> fmt::Display for Outcome<T> {
+    ghost output = { λ x. outcome_text T.output x.0 };
 
     fn fmt<W: fmt::Write>(&self, f: &mut fmt::Formatter<W>) -> fmt::Result {
-        match self.0 {
-            Ok(()) => write!(f, "passed"),
+        match &self.0 {
+            Ok(answer) => write!(f, "{answer}"),
             Err(refusal) => write!(f, "{refusal}"),
         }
     }
 }
 
-/// What a stop question came to: its three figures, or `refused` and the number.
-#[derive(Drop)]
-pub struct StopAnswer(pub Result<(u32, u32, u32), Refusal>);
-
-impl fmt::Display for StopAnswer {
-    ghost output = { λ x. Some (answer_text x.0) };
+impl fmt::Display for Passed {
+    ghost output = { λ _. Some (codes "passed") };
 
     fn fmt<W: fmt::Write>(&self, f: &mut fmt::Formatter<W>) -> fmt::Result {
-        match self.0 {
-            Ok((distance, least, steps)) => write!(
-                f,
-                "{distance} mm, least force {least}, steps {steps}"
-            ),
-            Err(refusal) => write!(f, "{refusal}"),
-        }
+        f.write_str("passed")
+    }
+}
+
+impl Outcome<Passed> {
+    // By name and not by `From`: it says that the answer is forgotten.
+    /// What a call came to whose answer is not told.
+    pub fn of<T: Drop>(made: Result<T, Refusal>) -> Outcome<Passed>
+        ensures { told result.0 ≡ told made }
+    {
+        Outcome(made.map(|_| Passed))
     }
 }

@@ -1,11 +1,11 @@
 -- The point that breaks a table: without one the points are a table, and else those before it are one and with it they are not.
-use Rattle.std.proofs.Common.{◌≡◌, ℕ, suc, ◌+◌, ◌<◌, ◌≤◌, Bool, true, false, cond, ◌&&◌, ltb, leb, List, [], ◌∷◌, length, get_or, take, drop, Some, None, Option, sym, refl, ap, ◌∙◌, ⊎_elim, add-one, arith}
+use Rattle.std.proofs.Common.{◌≡◌, ℕ, suc, ◌+◌, ◌≤◌, Bool, true, false, cond, ◌&&◌, ltb, leb, List, [], ◌∷◌, length, take, Some, None, Option, sym, refl, ◌∙◌, ⊎_elim, add-one, arith}
 use Rattle.std.proofs.lemmas.Bool.Decides.{nat_tests}
 use Rattle.std.proofs.lemmas.List.{length-take}
 use Rattle.std.proofs.lemmas.Bool.{both_ways, ltb-true, ltb-false, leb-true, lt-ltb, le-leb, lt-leb, and_parts, and_cases, and_from, and_left, and_right}
 use Rattle.rules.specs.declared.figures.PointFigures.{PointFigures}
 use Rattle.rules.specs.Table.{may_begin, may_follow, orderly_after, lawful_table, breaks_after, first_break, BreaksFirst}
-use Rattle.rules.proofs.Tables.{next_read, none_some}
+use Rattle.rules.proofs.Tables.{none_some}
 
 -- what a test that ends in `Some` says
 taken : (b : Bool) (x : Option ℕ) (k : ℕ) → cond b x (Some k) ≡ None → (b ≡ true) × (x ≡ None)
@@ -120,15 +120,3 @@ first_some p rest j false t e whole =
 pub break_says : (ps : List PointFigures) (j : ℕ) → first_break ps ≡ Some j → BreaksFirst ps j
 break_says [] j e = let here : 0 ≡ j = cc in record { before = λ h. absurd (omega arith); broken = rw (← here); whole = refl }
 break_says (p ∷ rest) j e = first_some p rest j _ refl e (broken_whole (p ∷ rest) j _ refl e)
-
--- ---- point by point, as a loop goes over them
-
-module _ (d : PointFigures) where
-  pub begins_as : (ps : List PointFigures) (b : Bool) → 0 < length ps → b ≡ may_begin (get_or ps 0 d)
-      → cond b (breaks_after 1 (get_or ps 0 d) (drop 1 ps)) (Some 0) ≡ first_break ps
-  begins_as [] b h t = absurd (omega arith)
-  begins_as (p ∷ rest) b h t = rw t
-
-  pub goes_on_as : (ps : List PointFigures) (b : Bool) (k : ℕ) (p : PointFigures) → k < length ps → b ≡ (ltb k 16 && may_follow p (get_or ps k d))
-      → cond b (breaks_after (k + 1) (get_or ps k d) (drop (k + 1) ps)) (Some k) ≡ breaks_after k p (drop k ps)
-  goes_on_as ps b k p h t = rw t (sym (ap (breaks_after k p) (next_read ps k d h)))

@@ -4,5 +4,4 @@ pub mod Layers
 pub mod PullTables
 pub mod Breaks
 pub mod Floors
-pub mod Grades
 pub mod Tables

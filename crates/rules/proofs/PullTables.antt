@@ -1,13 +1,11 @@
 -- Pull tables: the exact pull is a ratio of at most 1,000,000 that never rises with speed.
-use Rattle.std.proofs.Common.{◌≡◌, ℕ, zero, suc, ◌+◌, ◌-◌, ◌*◌, ◌<◌, ◌≤◌, true, cond, ◌&&◌, eqb, ltb, leb, List, [], ◌∷◌, length, get_or, sym, refl, ap, ◌∙◌, mul-le-mul_right, mul-zero, arith}
+use Rattle.std.proofs.Common.{◌≡◌, ℕ, zero, suc, ◌+◌, ◌-◌, ◌*◌, ◌<◌, ◌≤◌, true, cond, ◌&&◌, eqb, ltb, leb, List, [], ◌∷◌, length, get_or, refl, mul-le-mul_right, mul-zero, arith}
 use native.Mathlib.Nat.{sub_self}
-use Rattle.std.proofs.lemmas.Bool.{both_ways, ltb-true, ltb-false, leb-true, leb-false, eqb-true, lt-ltb, le-ltb, le-leb, lt-leb, and_parts, cond-true, cond-false, cond_both}
+use Rattle.std.proofs.lemmas.Bool.{both_ways, ltb-true, ltb-false, leb-true, leb-false, eqb-true, lt-ltb, le-ltb, le-leb, lt-leb, and_parts, cond-false, cond_both}
 use Rattle.rules.specs.declared.figures.PointFigures.{PointFigures}
-use Rattle.rules.specs.Ratio.{ratio, AtMost, rounded_down, rounded_up}
-use Rattle.rules.specs.Law.{Reads}
+use Rattle.rules.specs.Ratio.{ratio, AtMost}
 use Rattle.rules.specs.Table.{may_begin, may_follow, orderly_after, lawful_table, between_points, pull_after, table_pull, GoesThrough}
 use Rattle.rules.proofs.Ratios.{at_most_trans}
-use Rattle.rules.proofs.Readings.{rounded_reads}
 
 -- ---- what lawful points say
 
@@ -39,10 +37,6 @@ lawful_says p rest e =
     let first = and_parts (eqb p.speed 0) (leb p.value 1000000) parts.0 in
     let more = and_parts (leb (length rest) 15) (orderly_after p rest) parts.1 in
     record { at_rest = eqb-true _ _ first.0; within = leb-true _ _ first.1; few = leb-true _ _ more.0; falls = more.1 }
-
-pub lawful_count : (ps : List PointFigures) → lawful_table ps ≡ true → (1 ≤ length ps) × (length ps ≤ 16)
-lawful_count [] e = absurd (both_ways _ refl e)
-lawful_count (p ∷ rest) e = let few = (lawful_says p rest e).few in (omega arith, omega arith)
 
 -- ---- straight lines
 
@@ -99,12 +93,15 @@ after_falls p (n ∷ rest) v w f from h =
 -- ---- the pull of a table
 
 module _ (v : ℕ) where
-  pub table_reads : (ps : List PointFigures) → lawful_table ps ≡ true → Reads (table_pull ps v) (rounded_down (table_pull ps v)) (rounded_up (table_pull ps v)) 1
-  table_reads [] e = absurd (both_ways _ refl e)
-  table_reads (p ∷ rest) e =
+  pub table_proper : (ps : List PointFigures) → lawful_table ps ≡ true → 1 ≤ (table_pull ps v).den
+  table_proper [] e = absurd (both_ways _ refl e)
+  table_proper (p ∷ rest) e = after_proper p rest v (lawful_says p rest e).falls
+
+  pub table_most : (ps : List PointFigures) → lawful_table ps ≡ true → (table_pull ps v).num ≤ 1000000 * (table_pull ps v).den
+  table_most [] e = absurd (both_ways _ refl e)
+  table_most (p ∷ rest) e =
       let first = lawful_says p rest e in
-      rounded_reads (pull_after p rest v) (after_proper p rest v first.falls)
-      (omega (arith, after_cap p rest v first.falls (omega (arith, first.at_rest)), mul-le-mul_right (pull_after p rest v).den first.within))
+      omega (arith, after_cap p rest v first.falls (omega (arith, first.at_rest)), mul-le-mul_right (pull_after p rest v).den first.within)
 
   pub table_falls : (ps : List PointFigures) (w : ℕ) → lawful_table ps ≡ true → v ≤ w → AtMost (table_pull ps w) (table_pull ps v)
   table_falls [] w e h = absurd (both_ways _ refl e)
@@ -166,31 +163,3 @@ pub record Reached (ps : List PointFigures) (v : ℕ) (p : PointFigures) (left :
   pub falls : orderly_after p left ≡ true
   pub from : p.speed ≤ v
   pub within : p.value ≤ 1000000
-
-pub reached_first : (ps : List PointFigures) (v : ℕ) (p : PointFigures) (rest : List PointFigures) → ps ≡ p ∷ rest → lawful_table ps ≡ true → Reached ps v p rest
-reached_first ps v p rest e lawful =
-    let first = lawful_says p rest (sym (ap lawful_table e) ∙ lawful) in
-    record { pull = sym (ap (λ xs. table_pull xs v) e); falls = first.falls; from = omega (arith, first.at_rest); within = first.within }
-
-module _ {ps : List PointFigures} {v : ℕ} {p n : PointFigures} {left more : List PointFigures} (r : Reached ps v p left) (next : left ≡ n ∷ more) where
-  after_next : Follows p n × (orderly_after n more ≡ true)
-  after_next = orderly_says p n more (sym (ap (orderly_after p) next) ∙ r.falls)
-
-  pub reached_next : n.speed ≤ v → Reached ps v n more
-  reached_next h =
-      record {
-        pull = sym (cond-false _ _ _ (le-ltb _ _ h)) ∙ sym (ap (λ xs. pull_after p xs v) next) ∙ r.pull;
-        falls = after_next.1;
-        from = h;
-        within = omega (arith, r.within, after_next.0.fall);
-      }
-
-  pub here_follows : Follows p n
-  here_follows = after_next.0
-
-  -- at a speed under that of the next point
-  pub here_between : v < n.speed → between_points p n v ≡ table_pull ps v
-  here_between h = sym (cond-true _ _ _ (lt-ltb _ _ h)) ∙ sym (ap (λ xs. pull_after p xs v) next) ∙ r.pull
-
-pub reached_last : {ps : List PointFigures} {v : ℕ} {p : PointFigures} {left : List PointFigures} → Reached ps v p left → left ≡ [] → pull_after p [] v ≡ table_pull ps v
-reached_last {ps} {v} {p} r e = sym (ap (λ xs. pull_after p xs v) e) ∙ r.pull

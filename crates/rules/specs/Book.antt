@@ -1,6 +1,6 @@
 -- The book: the train, the line and the braking distance, each figure as it was given, and what the calls do in it.
 -- Masses and pressures are in tenths of a tonne, lengths in metres.
-use Rattle.std.specs.Prelude.{◌≡◌, ℕ, zero, suc, ◌+◌, ◌-◌, Bool, true, false, cond, List, [], ◌∷◌, ◌++◌, length, take, Some, None, Option, ◌==◌, ◌≢◌, slice_index_or}
+use Rattle.std.specs.Prelude.{◌≡◌, ℕ, zero, suc, ◌+◌, ◌-◌, Bool, true, false, cond, List, [], ◌∷◌, ◌++◌, length, take, ◌==◌, ◌≢◌, slice_index_or}
 use Rattle.rules.specs.declared.figures.VehicleFigures.{VehicleFigures}
 use Rattle.rules.specs.declared.figures.SectionFigures.{SectionFigures}
 use Rattle.rules.specs.Ratio.{ratio, rounded_up}
@@ -59,12 +59,6 @@ lifted b = book b.vehicles [] b.distance
 
 abbrev pub with_distance : Book → ℕ → Book
 with_distance b l = book b.vehicles b.sections l
-
--- entry k of a list, counted from 0
-abbrev pub entry : {X : Type 0} → List X → ℕ → Option X
-entry [] k = None
-entry (x ∷ xs) zero = Some x
-entry (x ∷ xs) (suc k) = entry xs k
 
 -- ---- sums over the train and the line
 

@@ -13,3 +13,5 @@ pub mod Stop
 pub mod Questions
 pub mod Sample
 pub mod Figures
+pub mod Printed
+pub mod Given

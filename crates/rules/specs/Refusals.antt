@@ -1,5 +1,6 @@
 -- The number by which each refusal is told, and how numbered questions decide.
 use Rattle.std.specs.Prelude.{◌≡◌, ℕ, Bool, cond, List, [], ◌∷◌, ◌++◌, Some, None, Ok, Err, codes, decimal, Option, Result}
+use Rattle.rules.specs.declared.figures.StopFigures.{StopFigures}
 use Rattle.rules.specs.declared.refusal.Refusal.{Refusal}
 use Rattle.rules.specs.declared.refusal.Refusal.TheVariants.{UnlawfulVehicle, TrainFull, NoSuchVehicle, UnlawfulSection, LineFull, UnlawfulBrakingDistance, QuestionOutOfRange, NoLocomotive, LineTooShort, WeakBrake, WeakStep, StopsTooFar, UnlawfulLaw}
 
@@ -58,8 +59,8 @@ decide None r = r
 decide (Some n) r = refused n
 
 -- the reply that the result of a stop question is: distance in millimetres, least force, number of steps
-abbrev pub stop_reply : Result (ℕ × ℕ × ℕ) Refusal → Reply
-stop_reply (Ok t) = stops t.0 t.1 t.2
+abbrev pub stop_reply : Result StopFigures Refusal → Reply
+stop_reply (Ok s) = stops s.distance s.least s.steps
 stop_reply (Err e) = refused (number_of e)
 
 -- what is printed of a refusal

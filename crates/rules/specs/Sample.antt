@@ -3,6 +3,7 @@
 use Rattle.std.specs.Prelude.{ℕ, true, List, [], ◌∷◌, ℤ}
 use Rattle.rules.specs.declared.figures.PointFigures.{PointFigures}
 use Rattle.rules.specs.declared.figures.SectionFigures.{SectionFigures}
+use Rattle.rules.specs.Given.{straight_section}
 use Rattle.rules.specs.Law.{Falling, Stock, stock, rounded_falling, rounded_drag}
 use Rattle.rules.specs.Layers.{scaled}
 use Rattle.rules.specs.Table.{table_pull}
@@ -20,7 +21,7 @@ example_train =
 
 -- 3,000 m of a gradient, straight and without a stop
 abbrev pub long_section : ℤ → SectionFigures
-long_section i = record { metres = 3000; gradient = i; curve = 0; radius = 0; stop = 0 }
+long_section = straight_section 3000
 
 -- without a section where the gradient is not lawful
 abbrev pub example_book : ℤ → Book

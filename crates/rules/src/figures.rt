@@ -1,12 +1,38 @@
-ghost use Rattle.std.specs.Prelude.{◌≡◌};
+ghost use Rattle.std.specs.Prelude.{◌≡◌, Some};
+ghost use Rattle.rules.specs.Printed.{vehicle_text, section_text, stop_text};
+ghost use Rattle.rules.specs.Given.{straight_section, full_braking};
+
+use std::fmt;
 
 /// The figures of a vehicle as they are given: its letter ('L' a locomotive, 'W' a wagon), its mass and its brake
 /// pressure, both in tenths of a tonne.
 #[derive(Clone, Copy, PartialEq, Eq, Debug)]
 pub struct VehicleFigures {
+    // Any letter may be given, and a wrong one is refused with its number: an enum of two would ask that of the caller.
     pub letter: char,
     pub mass: u32,
     pub pressure: u32,
+}
+
+impl VehicleFigures {
+    /// A vehicle's letter, mass and pressure.
+    pub fn new(letter: char, mass: u32, pressure: u32) -> VehicleFigures
+        ensures { (result.letter ≡ letter) × (result.mass ≡ mass) × (result.pressure ≡ pressure) }
+    {
+        VehicleFigures {
+            letter,
+            mass,
+            pressure,
+        }
+    }
+}
+
+impl fmt::Display for VehicleFigures {
+    ghost output = { λ x. Some (vehicle_text x) };
+
+    fn fmt<W: fmt::Write>(&self, f: &mut fmt::Formatter<W>) -> fmt::Result {
+        write!(f, "{} {} {}", self.letter, self.mass, self.pressure)
+    }
 }
 
 /// The figures of a section of line as they are given: its length in metres, its gradient in tenths of a per mille
@@ -15,9 +41,38 @@ pub struct VehicleFigures {
 pub struct SectionFigures {
     pub metres: u32,
     pub gradient: i32,
+    // Any numbers may be given for a curve and a stop mark, and wrong ones are refused with theirs: an option and a `bool` would
+    // ask that of the caller.
     pub curve: u32,
     pub radius: u32,
     pub stop: u32,
+}
+
+impl SectionFigures {
+    /// A straight section that is no stop.
+    pub fn straight(metres: u32, gradient: i32) -> SectionFigures
+        ensures { result ≡ straight_section metres gradient }
+    {
+        SectionFigures {
+            metres,
+            gradient,
+            curve: 0,
+            radius: 0,
+            stop: 0,
+        }
+    }
+}
+
+impl fmt::Display for SectionFigures {
+    ghost output = { λ x. Some (section_text x) };
+
+    fn fmt<W: fmt::Write>(&self, f: &mut fmt::Formatter<W>) -> fmt::Result {
+        write!(
+            f,
+            "{} {} {} {} {}",
+            self.metres, self.gradient, self.curve, self.radius, self.stop
+        )
+    }
 }
 
 /// The figures of a point of a pull table as they are given: a speed in tenths of km/h and the pull there in kgf.
@@ -33,5 +88,47 @@ impl PointFigures {
         ensures { (result.speed ≡ speed) × (result.value ≡ value) }
     {
         PointFigures { speed, value }
+    }
+}
+
+/// The figures of a stop question as they are given: a place in metres from the start of the line, a speed in tenths of km/h,
+/// and a factor in tenths of full braking.
+#[derive(Clone, Copy, PartialEq, Eq, Debug)]
+pub struct StopQuestion {
+    pub place: u32,
+    pub speed: u32,
+    pub factor: u32,
+}
+
+impl StopQuestion {
+    /// A stop from a place, at a speed, by full braking.
+    pub fn full_braking(place: u32, speed: u32) -> StopQuestion
+        ensures { result ≡ full_braking place speed }
+    {
+        StopQuestion {
+            place,
+            speed,
+            factor: 10,
+        }
+    }
+}
+
+/// The figures of a stop: its distance in millimetres, the least force in milli, and the number of its steps.
+#[derive(Clone, Copy, PartialEq, Eq, Debug)]
+pub struct StopFigures {
+    pub distance: u32,
+    pub least: u32,
+    pub steps: u32,
+}
+
+impl fmt::Display for StopFigures {
+    ghost output = { λ x. Some (stop_text x) };
+
+    fn fmt<W: fmt::Write>(&self, f: &mut fmt::Formatter<W>) -> fmt::Result {
+        write!(
+            f,
+            "{} mm, least force {}, steps {}",
+            self.distance, self.least, self.steps
+        )
     }
 }

@@ -6,5 +6,5 @@ pub mod figures;
 pub mod refusal;
 pub mod theorems;
 
-pub use figures::{PointFigures, SectionFigures, VehicleFigures};
+pub use figures::{PointFigures, SectionFigures, StopFigures, StopQuestion, VehicleFigures};
 pub use refusal::Refusal;

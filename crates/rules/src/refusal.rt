@@ -1,59 +1,47 @@
 ghost use Rattle.std.specs.Prelude.{◌≡◌, Some};
 ghost use Rattle.rules.specs.Refusals.{number_of, refusal_text};
 
+use std::error::Error;
 use std::fmt;
 
-/// Why a call is refused.
+/// Why a call is refused, with the number that tells it.
 #[derive(Clone, Copy, PartialEq, Eq, Debug)]
 pub enum Refusal {
     /// A vehicle's letter, mass or pressure is out of its range.
-    UnlawfulVehicle,
+    UnlawfulVehicle = 1,
     /// The train has 120 vehicles already.
-    TrainFull,
+    TrainFull = 2,
     /// The train has no such vehicle.
-    NoSuchVehicle,
+    NoSuchVehicle = 3,
     /// A figure of a section is out of its range.
-    UnlawfulSection,
+    UnlawfulSection = 4,
     /// The line has 200 sections already.
-    LineFull,
+    LineFull = 5,
     /// The braking distance is not 400 to 4,000 m.
-    UnlawfulBrakingDistance,
+    UnlawfulBrakingDistance = 6,
     /// A figure of the question is out of its range.
-    QuestionOutOfRange,
+    QuestionOutOfRange = 7,
     /// The train has no locomotive.
-    NoLocomotive,
+    NoLocomotive = 8,
     /// The line ends before the braking distance does.
-    LineTooShort,
+    LineTooShort = 9,
     /// The brake force at the speed asked is under 1 kgf/t.
-    WeakBrake,
+    WeakBrake = 10,
     /// In some step the force that holds the train back is under 1 kgf/t.
-    WeakStep,
+    WeakStep = 11,
     /// The train does not stop within the braking distance.
-    StopsTooFar,
+    StopsTooFar = 12,
     /// The figures of a law or a layer are out of their range.
-    UnlawfulLaw,
+    UnlawfulLaw = 14,
 }
 
 impl Refusal {
+    // By name and not by `From`: a bare `u32` would not say that it is the number told.
     /// The number by which the refusal is told.
     pub fn number(self) -> u32
         ensures { result ≡ number_of self }
     {
-        match self {
-            Refusal::UnlawfulVehicle => 1,
-            Refusal::TrainFull => 2,
-            Refusal::NoSuchVehicle => 3,
-            Refusal::UnlawfulSection => 4,
-            Refusal::LineFull => 5,
-            Refusal::UnlawfulBrakingDistance => 6,
-            Refusal::QuestionOutOfRange => 7,
-            Refusal::NoLocomotive => 8,
-            Refusal::LineTooShort => 9,
-            Refusal::WeakBrake => 10,
-            Refusal::WeakStep => 11,
-            Refusal::StopsTooFar => 12,
-            Refusal::UnlawfulLaw => 14,
-        }
+        self as u32
     }
 }
 
@@ -65,3 +53,5 @@ impl fmt::Display for Refusal {
         write!(f, "refused {number}")
     }
 }
+
+impl Error for Refusal {}

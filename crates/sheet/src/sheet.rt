@@ -1,9 +1,13 @@
-ghost use Rattle.std.specs.Prelude.{◌≤◌};
+ghost use Rattle.std.specs.Prelude.{◌≡◌, ◌≤◌, length, slice_get, IfOk};
+ghost use Rattle.rules.specs.Book.{Book, book, new_book, coupled, uncoupled, cut_out, restored, appended, lifted, with_distance, OnlyBrakeOf};
+ghost use Rattle.rules.specs.Questions.{coupling, vehicle_there, appending, setting_distance};
+ghost use Rattle.rules.specs.Refusals.{told, first_no, unless};
 
-use line::Line;
-use train::Consist;
-
-pub mod edits;
+use line::{Line, Section};
+use rules::{Refusal, SectionFigures, VehicleFigures};
+use std::alloc::{AllocError, Global};
+use std::marker::Model;
+use train::{Consist, Vehicle};
 
 /// The sheet: a train, a line and the braking distance in metres, within which the train must stop.
 #[derive(Drop)]
@@ -11,6 +15,142 @@ pub struct Sheet {
     consist: Consist,
     line: Line,
     distance: u32,
-    ghost near: { 400 ≤ distance },
-    ghost far: { distance ≤ 4000 },
+}
+
+impl Model for Sheet {
+    ghost Value = { Book };
+
+    ghost view = { λ s. book s.consist s.line s.distance };
+
+    ghost invariant = { λ s. (400 ≤ s.distance) × (s.distance ≤ 4000) };
+}
+
+impl Sheet {
+    /// A new sheet: no vehicle, no section, and a braking distance of 1,000 m. Only this call can want memory.
+    pub fn new(heap: Global) -> Result<Sheet, AllocError>
+        ensures { IfOk result (λ s. s ≡ new_book) }
+    {
+        let consist = Consist::new(heap)?;
+        let line = Line::new(heap)?;
+        Ok(Sheet {
+            consist,
+            line,
+            distance: 1000,
+        })
+    }
+
+    /// Couples a vehicle at the rear, its brake in.
+    pub fn couple(&mut self, figures: VehicleFigures) -> Result<(), Refusal>
+        ensures answer { told result ≡ first_no (coupling self.old.vehicles figures) }
+        ensures held { self.new ≡ unless (told result) (coupled self.old figures) self.old }
+    {
+        self.consist.couple(figures)
+    }
+
+    /// Uncouples the rear vehicle.
+    pub fn uncouple(&mut self) -> Result<(), Refusal>
+        ensures answer { told result ≡ first_no (vehicle_there self.old.vehicles 0) }
+        ensures held { self.new ≡ unless (told result) (uncoupled self.old) self.old }
+    {
+        self.consist.uncouple()
+    }
+
+    // Cutting out and restoring are two calls, as the inspector knows them, and either is a line over one of the consist.
+    /// Cuts out the brake of vehicle k, whatever it was before, and of no other vehicle.
+    pub fn cut_out(&mut self, k: usize) -> Result<(), Refusal>
+        ensures answer { told result ≡ first_no (vehicle_there self.old.vehicles k) }
+        ensures held { self.new ≡ unless (told result) (cut_out self.old k) self.old }
+        ensures framed { OnlyBrakeOf k self.old.vehicles self.new.vehicles }
+    {
+        self.consist.set_brake(k, false)
+    }
+
+    /// Restores the brake of vehicle k, whatever it was before, and of no other vehicle.
+    pub fn restore(&mut self, k: usize) -> Result<(), Refusal>
+        ensures answer { told result ≡ first_no (vehicle_there self.old.vehicles k) }
+        ensures held { self.new ≡ unless (told result) (restored self.old k) self.old }
+        ensures framed { OnlyBrakeOf k self.old.vehicles self.new.vehicles }
+    {
+        self.consist.set_brake(k, true)
+    }
+
+    /// Appends a section at the end of the line.
+    pub fn append(&mut self, figures: SectionFigures) -> Result<(), Refusal>
+        ensures answer { told result ≡ first_no (appending self.old.sections figures) }
+        ensures held { self.new ≡ unless (told result) (appended self.old figures) self.old }
+    {
+        self.line.append(figures)
+    }
+
+    /// Lifts all sections; never refused.
+    pub fn lift(&mut self)
+        ensures { self.new ≡ lifted self.old }
+    {
+        self.line.lift();
+    }
+
+    /// Sets the braking distance in metres.
+    pub fn set_distance(&mut self, metres: u32) -> Result<(), Refusal>
+        ensures answer { told result ≡ first_no (setting_distance metres) }
+        ensures held { self.new ≡ unless (told result) (with_distance self.old metres) self.old }
+    {
+        if !(400..=4000).contains(&metres) {
+            return Err(Refusal::UnlawfulBrakingDistance);
+        }
+        self.distance = metres;
+        Ok(())
+    }
+
+    /// How many vehicles the train has.
+    pub fn vehicle_count(&self) -> usize
+        ensures count { result ≡ length self.now.vehicles }
+        ensures few { result ≤ 120 }
+    {
+        self.consist.len()
+    }
+
+    /// Vehicle k, counted from 0 at the front.
+    pub fn vehicle(&self, k: usize) -> Option<Vehicle>
+        ensures { result ≡ slice_get self.now.vehicles k }
+    {
+        self.consist.vehicle(k)
+    }
+
+    /// How many sections the line has.
+    pub fn section_count(&self) -> usize
+        ensures count { result ≡ length self.now.sections }
+        ensures few { result ≤ 200 }
+    {
+        self.line.len()
+    }
+
+    /// Section k, counted from 0 at the start of the line.
+    pub fn section(&self, k: usize) -> Option<Section>
+        ensures { result ≡ slice_get self.now.sections k }
+    {
+        self.line.section(k)
+    }
+
+    /// The braking distance in metres.
+    pub fn distance(&self) -> u32
+        ensures distance { result ≡ self.now.distance }
+        ensures near { 400 ≤ result }
+        ensures far { result ≤ 4000 }
+    {
+        self.distance
+    }
+
+    /// The train.
+    pub fn consist(&self) -> &Consist
+        ensures { result.now ≡ self.now.vehicles }
+    {
+        &self.consist
+    }
+
+    /// The line.
+    pub fn line(&self) -> &Line
+        ensures { result.now ≡ self.now.sections }
+    {
+        &self.line
+    }
 }

@@ -1,3 +1,3 @@
-pub mod Vehicles
-pub mod Consists
+pub mod VehicleKind
+pub mod Vehicle
 pub mod Totals

@@ -7,4 +7,4 @@ pub mod vehicle;
 
 pub use consist::Consist;
 pub use totals::Totals;
-pub use vehicle::Vehicle;
+pub use vehicle::{Vehicle, VehicleKind};

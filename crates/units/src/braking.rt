@@ -1,20 +1,33 @@
 ghost use Rattle.std.specs.Prelude.{◌≡◌, ◌*◌, ◌/◌, ◌<◌, ◌≤◌, MatchOption};
+ghost use Rattle.rules.specs.Ratio.{ratio};
 
-use crate::quantity::{Friction, Milli};
+use crate::amount::{Friction, Milli};
+use std::marker::Model;
 
 /// The share of a train's weight with which its blocks are pressed on, never more than the whole.
 #[derive(Clone, Copy, PartialEq, Eq, Debug)]
 pub struct BrakeRatio {
     pressed: u32,
     weight: u32,
-    ghost some: { 1 ≤ weight },
-    ghost within: { pressed ≤ weight },
+}
+
+impl Model for BrakeRatio {
+    ghost use Rattle.std.specs.Prelude.{◌≤◌};
+    ghost use Rattle.rules.specs.Ratio.{Ratio, ratio};
+
+    ghost Value = { Ratio };
+
+    ghost view = { λ s. ratio s.pressed s.weight };
+
+    ghost invariant = { λ s. (1 ≤ s.weight) × (s.pressed ≤ s.weight) };
+
+    ghost inverse = { λ x. record { pressed = x.num; weight = x.den } };
 }
 
 impl BrakeRatio {
     /// The share that the pressed weight has in the weight; none where there is no weight, or more is pressed than it.
     pub fn new(pressed: u32, weight: u32) -> Option<BrakeRatio>
-        ensures { MatchOption result ((1 ≤ weight → weight < pressed)) (λ s. (s.pressed ≡ pressed) × (s.weight ≡ weight)) }
+        ensures { MatchOption result (1 ≤ weight → weight < pressed) (λ s. s ≡ ratio pressed weight) }
     {
         if 1 <= weight && pressed <= weight {
             Some(BrakeRatio { pressed, weight })
@@ -22,23 +35,22 @@ impl BrakeRatio {
             None
         }
     }
-}
 
-// The part of n that a part is of the whole, rounded down.
-fn share(part: u32, whole: u32, n: u32) -> u32
-    requires { (1 ≤ whole) × (part ≤ whole) }
-    ensures value { result ≡ part * n / whole }
-    ensures bound { result ≤ n }
-{
-    (u64::from(part) * u64::from(n) / u64::from(whole)) as u32
+    // The part of n that the share is, rounded down.
+    fn of(self, n: u32) -> u32
+        ensures value { result ≡ self.num * n / self.den }
+        ensures bound { result ≤ n }
+    {
+        (u64::from(self.pressed) * u64::from(n) / u64::from(self.weight)) as u32
+    }
 }
 
 impl Friction {
     /// The brake force of blocks of this friction, per mass of the train, rounded down.
-    pub fn braking(self, ratio: BrakeRatio) -> Milli
-        ensures share { result.0 ≡ ratio.pressed * self.0 / ratio.weight }
-        ensures bound { result.0 ≤ self.0 }
+    pub fn braking(self, pressing: BrakeRatio) -> Milli
+        ensures share { result ≡ pressing.num * self / pressing.den }
+        ensures bound { result ≤ self }
     {
-        Milli::from_milli(share(ratio.pressed, ratio.weight, self.millionths()))
+        Milli::new(pressing.of(self.count()))
     }
 }

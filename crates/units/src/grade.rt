@@ -1,47 +1,72 @@
-ghost use Rattle.std.specs.Prelude.{◌≡◌, pos, ◌+ℤ◌};
+ghost use Rattle.std.specs.Prelude.{◌≡◌, pos, ◌+ℤ◌, Some};
+ghost use Rattle.std.specs.Fmt.{signed_decimal};
 ghost use Rattle.rules.specs.Fraction.{fall_of};
 ghost use Rattle.std.specs.Int.{int_min};
 
-use crate::quantity::Milli;
+use crate::amount::Milli;
+use std::fmt;
+use std::marker::Model;
 
 /// A grade in milli: 1,000 for each per mille, negative where the line falls.
-#[derive(Clone, Copy, PartialEq, Eq, Debug)]
-pub struct Grade(i32);
+#[derive(Clone, Copy, PartialEq, Eq, PartialOrd, Ord, Debug)]
+pub struct Grade {
+    milli: i32,
+}
+
+impl Model for Grade {
+    ghost use Rattle.std.specs.Prelude.{ℤ};
+
+    ghost Value = { ℤ };
+
+    ghost view = { λ g. g.milli };
+
+    ghost inverse = { λ z. record { milli = z } };
+}
 
 impl Grade {
+    // By name and not by `From`: `Grade::from(100)` would not say milli.
     /// The grade of so many milli.
-    pub fn from_milli(n: i32) -> Grade
-        ensures { result.0 ≡ n }
+    pub fn from_milli(milli: i32) -> Grade
+        ensures { result ≡ milli }
     {
-        Grade(n)
+        Grade { milli }
     }
 
     /// The grade in milli.
     pub fn milli(self) -> i32
-        ensures { result ≡ self.0 }
+        ensures { result ≡ self }
     {
-        self.0
+        self.milli
     }
 
+    // `min` of the derived order, by the word of the subject.
     /// The lower of two grades.
     pub fn lower(self, other: Grade) -> Grade
-        ensures { result.0 ≡ int_min self.0 other.0 }
+        ensures { result ≡ int_min self other }
     {
-        Grade(self.0.min(other.0))
+        self.min(other)
     }
 
     /// How steep a fall is; 0 on the level and on a rise.
     pub fn fall(self) -> Milli
-        ensures { result.0 ≡ fall_of self.0 }
+        ensures { result ≡ fall_of self }
     {
-        Milli::from_milli(self.0.min(0).unsigned_abs())
+        Milli::new(self.milli.min(0).unsigned_abs())
     }
 
     /// The force that holds a train back on this grade under a brake force and a drag, in milli. It is negative where the
     /// fall outweighs both.
     pub fn holding_milli(self, brake: Milli, drag: Milli) -> i64
-        ensures { result ≡ pos brake.0 +ℤ pos drag.0 +ℤ self.0 }
+        ensures { result ≡ pos brake +ℤ pos drag +ℤ self }
     {
-        i64::from(brake.milli()) + i64::from(drag.milli()) + i64::from(self.0)
+        i64::from(brake.count()) + i64::from(drag.count()) + i64::from(self.milli)
+    }
+}
+
+impl fmt::Display for Grade {
+    ghost output = { λ g. Some (signed_decimal g) };
+
+    fn fmt<W: fmt::Write>(&self, f: &mut fmt::Formatter<W>) -> fmt::Result {
+        write!(f, "{}", self.milli())
     }
 }

@@ -1,14 +1,14 @@
-// Wrapped numbers: no figure is taken for one of another unit, and each conversion between units has a name.
+// Wrapped numbers: no figure is taken for one of another unit, and what leads from one unit to another has a name.
 #![tactic(auto)]
 
+pub mod amount;
 pub mod braking;
+pub mod exact;
 pub mod grade;
-pub mod gross;
-pub mod quantity;
-pub mod speed;
+pub mod tenths;
 
+pub use amount::{Amount, Friction, Kgf, KilogramsForce, Milli, MilliPerTonne, Millionths};
 pub use braking::BrakeRatio;
+pub use exact::ExactValue;
 pub use grade::Grade;
-pub use gross::Gross;
-pub use quantity::{Friction, Kgf, Milli, Quantity};
-pub use speed::Speed;
+pub use tenths::{Gross, KilometresPerHour, Speed, Tenths, Tonnes};

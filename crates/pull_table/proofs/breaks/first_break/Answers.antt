@@ -1,29 +1,15 @@
-use Rattle.std.proofs.Common.{◌<◌, length, sym, ap, ◌∙◌, arith, ltb-false}
-use Rattle.std.proofs.lemmas.List.{drop_all}
-use Rattle.rules.specs.Table.{breaks_after}
-use Rattle.rules.proofs.Breaks.{no_break, break_says, begins_as, goes_on_as}
+use Rattle.std.proofs.Common.{◌≡◌, ◌+◌, Some, None, sym, arith}
+use Rattle.std.proofs.lemmas.Grind.{common_steps}
+use Rattle.rules.specs.Table.{first_break}
+use Rattle.rules.proofs.Breaks.{no_break, break_says}
 use Rattle.pull_table.proofs.breaks.first_break.Goals as goal
 
-pub loop-k-init : goal.loop-k-init
-loop-k-init c =
-    let some : 0 < length c.args.points.now = omega (arith, ltb-false) in
-    begins_as _ c.args.points.now _ some c.if-not-can_begin.ensures
+pub returns-then-not-can_come_next-clause-says : goal.returns-then-not-can_come_next-clause-says
+returns-then-not-can_come_next-clause-says c =
+    let here : Some (c.loop-before.before + 1) ≡ first_break c.args.points.now = grind (arith, common_steps) in
+    break_says c.args.points.now _ (sym here)
 
-pub loop-k-preserved : goal.loop-k-preserved
-loop-k-preserved c =
-    goes_on_as _ c.args.points.now _ c.loop-k.k c.loop-k.last c.loop-k-test.true c.if-not-can_come_next.ensures
-    ∙ c.loop-k.invariant
-
-pub returns-then-not-can_come_next : goal.returns-then-not-can_come_next
-returns-then-not-can_come_next c =
-    let here =
-    goes_on_as _ c.args.points.now _ c.loop-k.k c.loop-k.last c.loop-k-test.true c.if-not-can_come_next.ensures
-    ∙ c.loop-k.invariant in
-    record { place = here; says = break_says _ _ (sym here) }
-
-pub returns : goal.returns
-returns c =
-    let ps = c.args.points.now in
-    let none =
-    sym (ap (breaks_after c.loop-k.k c.loop-k.last) (drop_all c.loop-k.k ps c.loop-k-test.false)) ∙ c.loop-k.invariant in
-    record { place = none; says = no_break ps (sym none) }
+pub returns-clause-says : goal.returns-clause-says
+returns-clause-says c =
+    let none : None ≡ first_break c.args.points.now = grind (arith, common_steps) in
+    no_break c.args.points.now (sym none)

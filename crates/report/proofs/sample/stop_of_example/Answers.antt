@@ -1,13 +1,17 @@
 -- The laws of the stock are told by its figures, and these are the example's.
 use Rattle.std.proofs.Common.{◌≡◌, ℕ, List, ap, ◌∙◌}
+use Rattle.layers.specs.declared.scale.Scale.{Scale}
+use Rattle.pull_table.specs.declared.table.PullTable.{PullTable}
+use Rattle.pull_table.specs.Tables.{points_of}
 use Rattle.rules.specs.declared.figures.PointFigures.{PointFigures}
+use Rattle.rules.specs.declared.figures.StopQuestion.{StopQuestion}
 use Rattle.rules.specs.Formulas.{cast_iron, wagon_drag, quadratic_drag}
 use Rattle.rules.specs.Kind.{freight}
 use Rattle.rules.specs.Law.{Stock, stock, rounded_falling, rounded_drag}
 use Rattle.rules.specs.Layers.{scaled}
 use Rattle.rules.specs.Questions.{asked_to_stop}
+use Rattle.rules.specs.Sample.{example_pull, example_stock}
 use Rattle.rules.specs.Table.{table_pull}
-use Rattle.sheet.specs.Sheets.{book_of}
 use Rattle.report.proofs.sample.stop_of_example.Goals as goal
 
 laws_by : List PointFigures → ℕ → ℕ → ℕ → ℕ → ℕ → ℕ → ℕ → Stock
@@ -22,6 +26,12 @@ same_laws x y z = cc
 pub returns : goal.returns
 unfolding laws_by
 returns c =
-    let told = c.diesel_by_table.ensures in
+    let told = c.diesel.ensures in
+    let pull = c.example_pull.ensures in
+    let points = ap (λ (p : Scale PullTable). points_of p.base) told.pull ∙ pull.0 in
+    let percent = ap (λ (p : Scale PullTable). p.percent) told.pull ∙ pull.1 in
+    let laws = same_laws (points, percent) told.pulling told.coasting in
+    let q = c.full_braking-question in
     c.stop.ensures
-    ∙ ap (λ s. asked_to_stop freight s (book_of c.args.sheet.now) 0 c.args.speed 10) (same_laws told.pull told.pulling told.coasting)
+    ∙ ap (λ s. asked_to_stop freight s c.args.sheet.now q.result.place q.result.speed q.result.factor) laws
+    ∙ ap (λ (r : StopQuestion). asked_to_stop freight (example_stock example_pull) c.args.sheet.now r.place r.speed r.factor) q.ensures

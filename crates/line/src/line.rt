@@ -1,0 +1,127 @@
+ghost use Rattle.rules.specs.Book.{line_length};
+ghost use Rattle.rules.specs.Grade.{lowest_low_grade};
+ghost use Rattle.rules.specs.Questions.{appending};
+ghost use Rattle.rules.specs.Refusals.{told, first_no, unless};
+ghost use Rattle.rules.specs.Window.{window};
+ghost use Rattle.std.specs.Int.{int_min};
+ghost use Rattle.std.specs.Prelude.{◌≡◌, ◌≤◌, [], ◌∷◌, ◌++◌, ◌&&◌, length, nat_le, slice_get, IfOk, MatchOption};
+
+use crate::section::Section;
+use rules::{Refusal, SectionFigures};
+use std::alloc::{AllocError, Global};
+use std::marker::Model;
+use units::Grade;
+
+// A consist holds its vehicles likewise; what both have in common is a `Vec` and two facts.
+/// The sections of a line from its start, at most 200; the memory for them is reserved when the line is made.
+#[derive(Drop)]
+pub struct Line {
+    sections: Vec<Section>,
+}
+
+// How many sections a line may have.
+const MOST_SECTIONS: usize = 200;
+
+impl Model for Line {
+    ghost use Rattle.std.specs.Prelude.{List, ◌≤◌, vec_len, vec_capacity};
+    ghost use Rattle.rules.specs.declared.figures.SectionFigures.{SectionFigures};
+
+    ghost Value = { List SectionFigures };
+
+    ghost view = { λ l. l.sections.items };
+
+    ghost invariant = { λ l. (vec_len l.sections ≤ 200) × (200 ≤ vec_capacity l.sections) };
+}
+
+impl Line {
+    /// A line without sections.
+    pub fn new(heap: Global) -> Result<Line, AllocError>
+        ensures { IfOk result (λ l. l ≡ []) }
+    {
+        Ok(Line {
+            sections: Vec::with_capacity(heap, MOST_SECTIONS)?,
+        })
+    }
+
+    /// How many sections there are.
+    pub fn len(&self) -> usize
+        ensures value { result ≡ length self.now }
+        ensures most { result ≤ 200 }
+    {
+        self.sections.len()
+    }
+
+    /// The sections from the start of the line.
+    pub fn sections(&self) -> &[Section]
+        ensures sections { result.now ≡ self.now }
+        ensures few { length self.now ≤ 200 }
+    {
+        &self.sections
+    }
+
+    /// Section k, counted from 0 at the start of the line.
+    pub fn section(&self, k: usize) -> Option<Section>
+        ensures { result ≡ slice_get self.now k }
+    {
+        self.sections.get(k).copied()
+    }
+
+    /// Appends a section at the end of the line.
+    pub fn append(&mut self, figures: SectionFigures) -> Result<(), Refusal>
+        ensures answer { told result ≡ first_no (appending self.old figures) }
+        ensures held { self.new ≡ unless (told result) (self.old ++ figures ∷ []) self.old }
+    {
+        let section = Section::try_from(figures)?;
+        if self.sections.len() >= MOST_SECTIONS {
+            return Err(Refusal::LineFull);
+        }
+        self.sections.push_reserved(section);
+        Ok(())
+    }
+
+    /// Lifts all sections.
+    pub fn lift(&mut self)
+        ensures { self.new ≡ [] }
+    {
+        self.sections.clear();
+    }
+
+    /// The length of the line in metres.
+    pub fn metres(&self) -> u32
+        ensures value { result ≡ line_length self.now }
+        ensures most { result ≤ 4000000 }
+    {
+        self.sections.iter().map(|section| section.metres()).sum()
+    }
+
+    /// The lowest low grade of the sections that share a point with the stretch from one place to another, every end
+    /// counted; level where no section does.
+    pub fn lowest_low_grade(&self, from: u32, to: u32) -> Grade
+        ensures { result ≡ lowest_low_grade (window from to self.now) }
+    {
+        let mut start: u32 = 0;
+        let mut lowest: Option<Grade> = None;
+        for section in self.sections.iter() {
+            let end = start + section.metres();
+            if meets(start, end, from, to) {
+                lowest = Some(lower_of(lowest, section.low_grade()));
+            }
+            start = end;
+        }
+        lowest.unwrap_or(Grade::from_milli(0))
+    }
+}
+
+// Whether a section from start to end shares a point with the stretch from..to.
+fn meets(start: u32, end: u32, from: u32, to: u32) -> bool
+    ensures { result ≡ (nat_le start to && nat_le from end) }
+{
+    start <= to && from <= end
+}
+
+// The lower of a grade and the lowest before it, if any.
+fn lower_of(lowest: Option<Grade>, grade: Grade) -> Grade
+    ensures { MatchOption lowest (result ≡ grade) (λ old. result ≡ int_min old grade) }
+{
+    lowest.map_or(grade, |old| old.lower(grade))
+}

@@ -1,0 +1,83 @@
+ghost use Rattle.std.specs.Prelude.{◌≡◌, ◌<◌, ◌≤◌, min, max, MatchOption, Some, decimal};
+
+use std::fmt;
+use std::marker::{Model, PhantomData};
+
+/// Kilometres per hour, of which a speed is told in tenths.
+#[derive(Clone, Copy, PartialEq, Eq, Debug)]
+pub struct KilometresPerHour;
+
+/// Tonnes, of which a mass is told in tenths.
+#[derive(Clone, Copy, PartialEq, Eq, Debug)]
+pub struct Tonnes;
+
+/// So many tenths of a unit, within a range.
+#[derive_where(Clone, Copy, PartialEq, Eq, PartialOrd, Ord, Debug)]
+pub struct Tenths<U, const LEAST: u32, const MOST: u32> {
+    tenths: u32,
+    unit: PhantomData<U>,
+}
+
+/// A speed in tenths of km/h, at most 160 km/h.
+pub type Speed = Tenths<KilometresPerHour, 0, 1600>;
+
+/// A gross mass per wagon in tenths of a tonne, 5 to 200 t.
+pub type Gross = Tenths<Tonnes, 50, 2000>;
+
+impl<U, const LEAST: u32, const MOST: u32> Model for Tenths<U, LEAST, MOST> {
+    ghost use Rattle.std.specs.Prelude.{ℕ, ◌≤◌};
+
+    ghost Value = { ℕ };
+
+    ghost view = { λ v. v.tenths };
+
+    ghost invariant = { λ v. (LEAST ≤ v.tenths) × (v.tenths ≤ MOST) };
+
+    ghost inverse = { λ n. record { tenths = n; unit = _ } };
+}
+
+impl<U, const LEAST: u32, const MOST: u32> Tenths<U, LEAST, MOST> {
+    // By name and not by `TryFrom`: `Speed::try_from(100)` would not say tenths.
+    /// So many tenths; none out of the range.
+    pub fn from_tenths(tenths: u32) -> Option<Tenths<U, LEAST, MOST>>
+        ensures { MatchOption result (LEAST ≤ tenths → MOST < tenths) (λ v. v ≡ tenths) }
+    {
+        if (LEAST..=MOST).contains(&tenths) {
+            Some(Tenths {
+                tenths,
+                unit: PhantomData,
+            })
+        } else {
+            None
+        }
+    }
+
+    /// How many tenths.
+    pub fn tenths(self) -> u32
+        ensures value { result ≡ self }
+        ensures least { LEAST ≤ result }
+        ensures most { result ≤ MOST }
+    {
+        self.tenths
+    }
+}
+
+impl Speed {
+    /// The speed of so many tenths of km/h, and 160 km/h for any that are more.
+    pub fn capped(tenths: u32) -> Speed
+        ensures { result ≡ min tenths 1600 }
+    {
+        Tenths {
+            tenths: tenths.min(1600),
+            unit: PhantomData,
+        }
+    }
+}
+
+impl<U, const LEAST: u32, const MOST: u32> fmt::Display for Tenths<U, LEAST, MOST> {
+    ghost output = { λ v. Some (decimal v) };
+
+    fn fmt<W: fmt::Write>(&self, f: &mut fmt::Formatter<W>) -> fmt::Result {
+        write!(f, "{}", self.tenths)
+    }
+}
