@@ -32,7 +32,8 @@ impl<L: Drop> Scale<L> {
 }
 
 impl<L: Law> Scale<L> {
-    // The share of a whole value, exactly.
+    // The share of a whole value, exactly. Its bound is that of the reading which it comes from: a type for it would be one more
+    // wrapped number.
     fn share(&self, whole: Amount<L::Unit>) -> ExactValue
         requires { whole ≤ 1000000 }
         ensures { result ≡ ratio (self.now.percent * whole) 100 }

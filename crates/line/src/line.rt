@@ -12,7 +12,8 @@ use std::alloc::{AllocError, Global};
 use std::marker::Model;
 use units::Grade;
 
-// A consist holds its vehicles likewise; what both have in common is a `Vec` and two facts.
+// A consist holds its vehicles likewise. What both have in common is a `Vec` and two facts, and a list of limited room under
+// both would take more words than it saves.
 /// The sections of a line from its start, at most 200; the memory for them is reserved when the line is made.
 #[derive(Drop)]
 pub struct Line {

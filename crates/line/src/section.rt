@@ -113,7 +113,8 @@ impl Section {
         ExactValue::of(rise, run).unwrap()
     }
 
-    // The grade of the gradient and of what the curve adds to it, in milli.
+    // The grade of the gradient and of what the curve adds to it, in milli. The bound is that of an exact value: a type for it
+    // would be one more wrapped number.
     fn with_curve(&self, curve: u32) -> i32
         requires { curve ≤ 1000000 }
         ensures { result ≡ pos 100 *ℤ self.now.gradient +ℤ pos curve }

@@ -105,7 +105,7 @@ fn times_length(p: PointFigures, n: PointFigures, v: Speed) -> u64
     before + after
 }
 
-// The exact pull from the last point on.
+// The exact pull from the last point on. The bound is that of a point of a table: a type for it would be one more wrapped number.
 fn past(p: PointFigures, v: Speed) -> ExactValue
     requires { p.value ≤ 1000000 }
     ensures { result ≡ pull_after p [] v }
