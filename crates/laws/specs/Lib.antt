@@ -1,3 +1,2 @@
-pub mod Formulas
 pub mod Kinds
 pub mod Drags

@@ -2,7 +2,7 @@ ghost use Rattle.std.specs.Prelude.{◌≡◌};
 ghost use Rattle.rules.specs.Formulas.{adhesion, AdhesionRange};
 ghost use Rattle.rules.specs.Refusals.{MadeIf};
 ghost use Rattle.std.proofs.Common.{arith, rules};
-ghost use Rattle.laws.specs.Formulas.{adhesion_cap, adhesion_falls};
+ghost use Rattle.rules.proofs.Formulas.{adhesion_cap, adhesion_falls};
 
 use crate::law::{FallingLaw, Formula};
 use rules::Refusal;

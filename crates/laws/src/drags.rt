@@ -1,7 +1,7 @@
 ghost use Rattle.std.specs.Prelude.{◌≡◌};
 ghost use Rattle.rules.specs.Formulas.{wagon_drag, quadratic_drag, QuadraticRange, df4_a, df4_b, df4_c};
 ghost use Rattle.rules.specs.Refusals.{MadeIf};
-ghost use Rattle.laws.specs.Formulas.{wagon_rises, quadratic_cap, quadratic_rises};
+ghost use Rattle.rules.proofs.Formulas.{wagon_rises, quadratic_cap, quadratic_rises};
 ghost use Rattle.std.proofs.Common.{rules, arith};
 
 use crate::law::{DragLaw, Formula, Running};

@@ -1,5 +1,6 @@
 pub mod Ratios
 pub mod Readings
+pub mod Formulas
 pub mod Layers
 pub mod PullTables
 pub mod Breaks
