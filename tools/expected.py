@@ -33,6 +33,7 @@ def rounded(exact):
 cast_iron = rounded(lambda v: F(270_000 * (v + 1000), 5 * v + 1000))
 composite = rounded(lambda v: F(360_000 * (v + 1500), 2 * v + 1500))
 wagon_drag = rounded(lambda v, q: F(100_000 * (v + 650), 12_000 + 55 * q))
+no_pull = lambda v: (0, 0, 0, 0)
 
 
 def adhesion(mass):
@@ -388,6 +389,7 @@ def readings():
     for mass in (1, 1000, 20_000):
         print(f"adhesive mass {mass}")
         read("adhesion", adhesion(mass), [0, 200, 1333])
+    read("no pull", no_pull, [0, 1600])
     example = table([(0, 40_000), (400, 20_000)])
     read("table of the example", example, [0, 1, 200, 399, 400, 401])
     read("table of three points", table([(0, 40_001), (300, 23_456), (1000, 7)]), [0, 1, 299, 300, 301, 997, 1000, 1001])

@@ -6,32 +6,41 @@ top=$(cd "$(dirname "$0")/.." && pwd)
 scratch=$(mktemp -d)
 trap 'rm -rf "$scratch"' EXIT
 
-for name in rules units laws layers; do
+for name in rules units laws pull_table layers; do
     mkdir -p "$scratch/crates/$name"
     cp -r "$top/crates/$name/src" "$top/crates/$name/specs" "$scratch/crates/$name/"
     if [ -d "$top/crates/$name/proofs" ]; then cp -r "$top/crates/$name/proofs" "$scratch/crates/$name/"; fi
     grep -E "^$name:" "$top/crates.txt" >> "$scratch/crates.txt"
 done
-echo "layered: layers laws units rules" >> "$scratch/crates.txt"
+echo "layered: layers pull_table laws units rules" >> "$scratch/crates.txt"
 mkdir -p "$scratch/crates/layered/src"
 cat > "$scratch/crates/layered/src/lib.rt" <<'CODE'
 #![tactic(auto)]
 
 use laws::{AdhesionPull, CastIron, Composite, NoPull, QuadraticDrag, WagonDrag};
 use layers::{Blend, Lesser, Scale};
-use rules::Refusal;
+use pull_table::PullTable;
+use rules::{PointFigures, Refusal};
 
 pub fn layered() -> Result<(), Refusal> {
+    let table = PullTable::new(&[PointFigures::new(0, 40_000)])?;
+    let adhesion = AdhesionPull::new(1000)?;
     let _ = Blend::new(CastIron, Composite, 1, 1)?;
-    let _ = Blend::new(AdhesionPull::new(1000)?, Scale::new(NoPull, 90)?, 1, 1)?;
+    let _ = Blend::new(Scale::new(table, 90)?, adhesion, 1, 1)?;
     let _ = Blend::new(WagonDrag, QuadraticDrag::df4(), 1, 1)?;
     let _ = Lesser::new(Composite, CastIron);
+    let _ = Lesser::new(NoPull, table);
     let _ = Blend::new(CastIron, NoPull, 1, 1)?; // unlike
     let _ = Blend::new(NoPull, CastIron, 1, 1)?; // unlike
+    let _ = Blend::new(Composite, table, 1, 1)?; // unlike
+    let _ = Blend::new(adhesion, CastIron, 1, 1)?; // unlike
+    let _ = Blend::new(adhesion, WagonDrag, 1, 1)?; // unlike
     let _ = Blend::new(CastIron, WagonDrag, 1, 1)?; // unlike
     let _ = Blend::new(QuadraticDrag::df4(), NoPull, 1, 1)?; // unlike
     let _ = Blend::new(Scale::new(CastIron, 90)?, NoPull, 1, 1)?; // unlike
     let _ = Lesser::new(CastIron, NoPull); // unlike
+    let _ = Lesser::new(adhesion, Composite); // unlike
+    let _ = Lesser::new(Scale::new(table, 90)?, CastIron); // unlike
     let _ = Lesser::new(NoPull, Blend::new(CastIron, Composite, 1, 1)?); // unlike
     let _ = Lesser::new(Composite, WagonDrag); // unlike
     let _ = Lesser::new(WagonDrag, WagonDrag); // unlike: of drags there is no lesser

@@ -1,4 +1,4 @@
-ghost use Rattle.rules.specs.Ratio.{ratio};
+ghost use Rattle.rules.specs.Formulas.{no_pull};
 ghost use Rattle.std.proofs.Common.{rules};
 
 use crate::law::{FallingLaw, Law};
@@ -14,7 +14,7 @@ impl Law for NoPull {
 
     type Place = Speed;
 
-    ghost exact = { λ _ _. ratio 0 1 };
+    ghost exact = { λ _ _. no_pull };
 
     ghost low = { λ _ _. 0 };
 

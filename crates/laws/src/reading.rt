@@ -1,6 +1,7 @@
 ghost use Rattle.std.specs.Prelude.{◌≡◌, ◌≤◌};
 ghost use Rattle.rules.specs.Ratio.{rounded_down, rounded_up};
-ghost use Rattle.rules.proofs.Readings.{rounded_reads};
+ghost use Rattle.std.proofs.Common.{arith};
+ghost use Rattle.rules.proofs.Readings.{rounded_reads, looser};
 
 use crate::law::{Formula, Law};
 use units::{Amount, ExactValue};
@@ -40,7 +41,9 @@ impl<F: Formula> Law for F {
 
     ghost slack = { λ _. 1 };
 
-    ghost reads = { λ l x h. rounded_reads _ (F.proper l x h) (F.most l x h) };
+    ghost reads = { λ l x h.
+        let r = rounded_reads _ (F.proper l x h) (F.most l x h) in
+        looser _ _ _ r (omega arith) (omega arith) (omega (arith, r.capped)) (omega (arith, r.close)) };
 
     fn read(&self, at: F::Place) -> Reading<F::Unit> {
         Reading::from(self.exactly(at))

@@ -41,7 +41,7 @@ impl<F: Law + Drop, S: Law<Unit = F::Unit, Place = F::Place> + Drop> Blend<F, S>
 impl<F: Law, S: Law<Unit = F::Unit, Place = F::Place>> Blend<F, S> {
     // The mixture of a whole value of each law, exactly. Their bounds are those of the readings which they come from: a type for
     // them would be one more wrapped number.
-    #[tactic(auto, using(crate::proofs::Mixtures::mixture_within))]
+    #[tactic(auto, using(rules::proofs::Layers::mixture_within))]
     fn mixture(&self, first: Amount<F::Unit>, second: Amount<F::Unit>) -> ExactValue
         requires first { first ≤ 1000000 }
         requires second { second ≤ 1000000 }

@@ -12,6 +12,7 @@ fn main(rt: HostRuntime) -> io::Result<()> {
     frictions::blocks(&rt)?;
     frictions::layers(&rt)?;
     pulls::adhesion(&rt)?;
+    pulls::none(&rt)?;
     pulls::tables(&rt)?;
     pulls::layers(&rt)?;
     drags::given(&rt)?;

@@ -1,4 +1,4 @@
-use laws::AdhesionPull;
+use laws::{AdhesionPull, NoPull};
 use layers::{Blend, Lesser, Scale};
 use pull_table::PullTable;
 use report::{example_pull, example_table, tell_readings};
@@ -21,6 +21,16 @@ pub fn adhesion(rt: &HostRuntime) -> io::Result<()> {
         }
     }
     Ok(())
+}
+
+/// A vehicle without traction.
+pub fn none(rt: &HostRuntime) -> io::Result<()> {
+    tell_readings(
+        rt,
+        "no pull",
+        &NoPull,
+        &[0, 1600].map(|tenths| Speed::from_tenths(tenths)),
+    )
 }
 
 /// Tables at, between and beyond their points.

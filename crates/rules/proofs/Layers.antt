@@ -13,16 +13,22 @@ use Rattle.rules.proofs.Readings.{reading}
 pub percent_reads : {x : Ratio} {lo hi s : ℕ} (p : ℕ) → PercentRange p → Reads x lo hi s
     → Reads (percent_of p x) (percent_down p lo) (percent_up p hi) (percent_slack s)
 percent_reads {x} {lo} {hi} {s} p ok r =
-    reading (percent_of p x) _ _ (s + 1) (omega arith)
-    (omega (arith, mul-le-mul_right x.den (down_under (ratio (p * lo) 100)), mul-le-mul_left p r.under))
-    (omega (arith, mul-le-mul_right x.den (up_over (ratio (p * hi) 100) (omega arith)), mul-le-mul_left p r.over))
-    (omega (arith, mul-le-mul ok.1 r.capped))
-    (omega (arith, mul-le-mul_left p r.close, mul-le-mul_right s ok.1))
+    let low = ratio (p * lo) 100 in
+    let high = ratio (p * hi) 100 in
+    reading (percent_of p x) _ _ (s + 1) (omega (arith, r.proper))
+    (omega (arith, mul-le-mul_right x.den (down_under low), mul-le-mul_left p r.under))
+    (omega (arith, mul-le-mul_right x.den (up_over high (omega arith)), mul-le-mul_left p r.over))
+    (up_least high (omega arith) 1000000 (omega (arith, mul-le-mul ok.1 r.capped)))
+    (up_near (p * lo) (p * hi) 100 s (omega arith) (omega (arith, mul-le-mul_left p r.close, mul-le-mul_right s ok.1)))
 
 pub percent_at_most : (p : ℕ) (x y : Ratio) → AtMost x y → AtMost (percent_of p x) (percent_of p y)
 percent_at_most p x y h = omega (arith, mul-le-mul_left p h)
 
 -- ---- blend
+
+-- a mixture of two numbers is at most what both are at most
+pub mixture_within : (a b m n : ℕ) → m ≤ 1000000 → n ≤ 1000000 → a * m + b * n ≤ 1000000 * (a + b)
+mixture_within a b m n h k = omega (arith, mul-le-mul_left a h, mul-le-mul_left b k)
 
 mixed_close : (a b hi hi' lo lo' s s' : ℕ) → hi ≤ lo + s → hi' ≤ lo' + s' → a * hi + b * hi' ≤ a * lo + b * lo' + max s s' * (a + b)
 mixed_close a b hi hi' lo lo' s s' h k =
@@ -39,7 +45,7 @@ blend_reads {x} {y} {lo} {hi} {s} {lo'} {hi'} {s'} a b ok r r' =
     reading (blend_of a b x y) _ _ (max s s' + 1) (mul-pos some (mul-pos r.proper r'.proper))
     (omega (arith, mul-le-mul_right (x.den * y.den) (down_under low), mul-le-mul_left (a * y.den) r.under, mul-le-mul_left (b * x.den) r'.under))
     (omega (arith, mul-le-mul_right (x.den * y.den) (up_over high some), mul-le-mul_left (a * y.den) r.over, mul-le-mul_left (b * x.den) r'.over))
-    (up_least high some 1000000 (omega (arith, mul-le-mul_left a r.capped, mul-le-mul_left b r'.capped)))
+    (up_least high some 1000000 (mixture_within a b hi hi' r.capped r'.capped))
     (up_near (a * lo + b * lo') (a * hi + b * hi') (a + b) (max s s') some (mixed_close a b hi hi' lo lo' s s' r.close r'.close))
 
 mixed : (a b n d m e n' d' m' e' : ℕ) → n * d' ≤ n' * d → m * e' ≤ m' * e

@@ -18,6 +18,10 @@ adhesion m v = ratio (25 * m * (50 + v) + 400 * m) (50 + v)
 abbrev pub AdhesionRange : ℕ → Type 0
 AdhesionRange m = (1 ≤ m) × (m ≤ 20000)
 
+-- the pull of a vehicle without traction
+abbrev pub no_pull : Ratio
+no_pull = ratio 0 1
+
 -- drag of wagons of gross mass q, in milli
 abbrev pub wagon_drag : ℕ → ℕ → Ratio
 wagon_drag v q = ratio (100000 * (v + 650)) (12000 + 55 * q)
