@@ -30,6 +30,10 @@ impl Law for NoPull {
             above: Amount::new(0),
         }
     }
+
+    fn slack(&self) -> Option<u32> {
+        Some(0)
+    }
 }
 
 impl FallingLaw for NoPull {

@@ -48,4 +48,8 @@ impl<F: Formula> Law for F {
     fn read(&self, at: F::Place) -> Reading<F::Unit> {
         Reading::from(self.exactly(at))
     }
+
+    fn slack(&self) -> Option<u32> {
+        Some(1)
+    }
 }

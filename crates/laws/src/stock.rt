@@ -1,4 +1,5 @@
 ghost use Rattle.std.specs.Prelude.{◌≡◌};
+ghost use Rattle.rules.specs.Allowance.{narrow, combined_slack};
 ghost use Rattle.rules.specs.Law.{Falling, Drag, Stock as StockMeaning, LawfulFalling, LawfulDrag, LawfulStock, falling, stock};
 ghost use Rattle.laws.specs.Drags.{drag_by, running};
 
@@ -19,6 +20,10 @@ pub trait LocomotiveLaws {
     /// The value below its drag when it coasts.
     fn coasting_below(&self, at: Running) -> Milli
         ensures { result ≡ (coasting self.now).below at.speed at.gross };
+
+    /// The slack of its drag when it coasts, as far as 32 bits hold it.
+    fn coasting_slack(&self) -> Option<u32>
+        ensures { result ≡ narrow (coasting self.now).slack };
 
     ghost lawful: { (e : Self) → LawfulFalling (pull e) × LawfulDrag (pulling e) × LawfulDrag (coasting e) };
 }
@@ -52,6 +57,10 @@ where
     fn coasting_below(&self, at: Running) -> Milli {
         self.coasting.below(at)
     }
+
+    fn coasting_slack(&self) -> Option<u32> {
+        self.coasting.slack()
+    }
 }
 
 /// Whatever states the laws of a train.
@@ -69,6 +78,11 @@ pub trait StockLaws {
     /// The value below the drag of the wagons.
     fn wagon_below(&self, at: Running) -> Milli
         ensures { result ≡ (meaning self.now).wagon.below at.speed at.gross };
+
+    /// By how much in milli a force that holds a train of these laws back may fall short of the exact one, as far as 32 bits
+    /// hold it: the slack of friction, the greater slack of the two drags of a stop, and 3 for rounding.
+    fn combined_slack(&self) -> Option<u32>
+        ensures { result ≡ narrow (combined_slack (meaning self.now)) };
 
     ghost lawful: { (s : Self) → LawfulStock (meaning s) };
 }
@@ -114,5 +128,10 @@ where
 
     fn wagon_below(&self, at: Running) -> Milli {
         self.wagon.below(at)
+    }
+
+    fn combined_slack(&self) -> Option<u32> {
+        let drags = self.locomotive.coasting_slack()?.max(self.wagon.slack()?);
+        self.friction.slack()?.checked_add(drags)?.checked_add(3)
     }
 }

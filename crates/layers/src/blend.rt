@@ -76,6 +76,10 @@ impl<F: Law, S: Law<Unit = F::Unit, Place = F::Place>> Law for Blend<F, S> {
             above: Amount::new(self.mixture(first.above, second.above).up()),
         }
     }
+
+    fn slack(&self) -> Option<u32> {
+        self.first.slack()?.max(self.second.slack()?).checked_add(1)
+    }
 }
 
 impl<F: FallingLaw, S: FallingLaw<Unit = F::Unit>> FallingLaw for Blend<F, S> {

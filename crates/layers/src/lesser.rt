@@ -46,6 +46,10 @@ impl<F: FallingLaw, S: FallingLaw<Unit = F::Unit>> Law for Lesser<F, S> {
             above: first.above.min(second.above),
         }
     }
+
+    fn slack(&self) -> Option<u32> {
+        Some(self.first.slack()?.max(self.second.slack()?))
+    }
 }
 
 impl<F: FallingLaw, S: FallingLaw<Unit = F::Unit>> FallingLaw for Lesser<F, S> {

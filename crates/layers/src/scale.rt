@@ -64,6 +64,10 @@ impl<L: Law> Law for Scale<L> {
             above: Amount::new(self.share(whole.above).up()),
         }
     }
+
+    fn slack(&self) -> Option<u32> {
+        self.base.slack()?.checked_add(1)
+    }
 }
 
 impl<L: FallingLaw> FallingLaw for Scale<L> {

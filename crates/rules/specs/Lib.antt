@@ -6,6 +6,7 @@ pub mod Layers
 pub mod Table
 pub mod Kind
 pub mod Refusals
+pub mod Allowance
 pub mod Book
 pub mod Grade
 pub mod Window
