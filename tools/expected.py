@@ -47,6 +47,7 @@ def quadratic(a, b, c):
 
 
 df4 = quadratic(2_280_000, 29_300, 178)
+DIESEL = cast_iron, df4, wagon_drag
 
 
 def is_table(points):
@@ -142,7 +143,7 @@ class Sheet:
             start += s[0]
         return found
 
-    def stop(self, kind, place, v, g, laws=(cast_iron, df4, wagon_drag)):
+    def stop(self, kind, place, v, g, laws=DIESEL):
         friction, coasting, wagon = laws
         seconds, slope = KINDS[kind]
         check(v <= 1600 and 1 <= g <= 10 and place <= 4_000_000, 7)
@@ -171,6 +172,12 @@ class Sheet:
         check(distance <= 1000 * self.reach, 12)
         return distance, min([b] + forces), len(runs)
 
+    def stop_with_allowance(self, kind, place, v, g, laws=DIESEL):
+        friction, coasting, wagon = laws
+        distance, least, steps = self.stop(kind, place, v, g, laws)
+        slack = friction(0)[3] + max(coasting(0, 50)[3], wagon(0, 50)[3]) + 3
+        return distance, least, steps, steps + 1 + ceil(F(slack * distance, least))
+
 
 def outcome(f, *args):
     try:
@@ -179,7 +186,8 @@ def outcome(f, *args):
         return f"refused {e.args[0]}"
     if not isinstance(r, tuple):
         return "passed"
-    return f"{r[0]} mm, least force {r[1]}, steps {r[2]}"
+    figures = f"{r[0]} mm, least force {r[1]}, steps {r[2]}"
+    return figures + "".join(f", at most {n} mm over the exact distance" for n in r[3:])
 
 
 # ---- the program `inspection`
@@ -221,7 +229,8 @@ def inspection():
 
     def ask(kind, place, speed, factor):
         name = {"F": "freight", "P": "passenger", "H": "freight by hand"}[kind]
-        print(f"stop by {name} brake, place {place}, speed {speed}, factor {factor}: {outcome(s.stop, kind, place, speed, factor)}")
+        told = outcome(s.stop_with_allowance, kind, place, speed, factor)
+        print(f"stop by {name} brake, place {place}, speed {speed}, factor {factor}: {told}")
 
     couple("L", 1000, 400)
     couple("W", 40, 10)

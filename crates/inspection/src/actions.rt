@@ -1,6 +1,7 @@
 use crate::show::show_sheet;
-use laws::BrakeKind;
-use report::{Outcome, tell, tell_stop};
+use laws::{BrakeKind, NoPull};
+use reckoning::stop;
+use report::{Outcome, StopWithAllowance, diesel, tell};
 use rules::{Refusal, StopQuestion};
 use sheet::Sheet;
 use std::{fmt, io};
@@ -45,12 +46,15 @@ impl<'a> fmt::Display for Asked<'a> {
     }
 }
 
-/// Asks how far the train needs to stop.
+/// Asks how far the train needs to stop, with a DF4 locomotive, and by how much at most the answer exceeds the exact distance.
 pub fn ask<K: BrakeKind>(
     rt: &HostRuntime,
     sheet: &Sheet,
     brake: &str,
     question: StopQuestion,
 ) -> io::Result<()> {
-    tell_stop::<K, _>(rt, Asked(brake, question), sheet, question)
+    let stock = diesel(NoPull);
+    let answer = stop::<K, _>(sheet, &stock, question);
+    let told = answer.map(|figures| StopWithAllowance::of(&stock, figures));
+    tell(rt, Asked(brake, question), Outcome(told))
 }

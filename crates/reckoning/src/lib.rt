@@ -1,11 +1,13 @@
-// The questions that are asked of a sheet, over any kind of brake and any stock.
+// The questions that are asked of a sheet, over any kind of brake and any stock, and what their answers allow for.
 #![tactic(auto)]
 
+pub mod allowances;
 pub mod approach;
 mod braking;
 mod edges;
 pub mod questions;
 mod step;
 
+pub use allowances::allowance;
 pub use approach::Approach;
 pub use questions::stop;
