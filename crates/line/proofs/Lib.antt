@@ -1,3 +1,4 @@
 mod Grades
 mod Lengths
+mod Sections
 mod Windows

@@ -1,6 +1,6 @@
 ghost use Rattle.rules.specs.Book.{line_length};
 ghost use Rattle.rules.specs.Grade.{lowest_low_grade};
-ghost use Rattle.rules.specs.Questions.{appending};
+ghost use Rattle.rules.specs.Questions.{appending, LawfulSections};
 ghost use Rattle.rules.specs.Refusals.{told, first_no, unless};
 ghost use Rattle.rules.specs.Window.{window};
 ghost use Rattle.std.specs.Int.{int_min};
@@ -14,7 +14,8 @@ use units::Grade;
 
 // A consist holds its vehicles likewise. What both have in common is a `Vec` and two facts, and a list of limited room under
 // both would take more words than it saves.
-/// The sections of a line from its start, at most 200; the memory for them is reserved when the line is made.
+/// The sections of a line from its start, at most 200 and each of them lawful; the memory for them is reserved when the line
+/// is made.
 #[derive(Drop)]
 pub struct Line {
     sections: Vec<Section>,
@@ -26,12 +27,13 @@ const MOST_SECTIONS: usize = 200;
 impl Model for Line {
     ghost use Rattle.std.specs.Prelude.{List, ◌≤◌, vec_len, vec_capacity};
     ghost use Rattle.rules.specs.declared.figures.SectionFigures.{SectionFigures};
+    ghost use Rattle.rules.specs.Questions.{LawfulSections};
 
     ghost Value = { List SectionFigures };
 
     ghost view = { λ l. l.sections.items };
 
-    ghost invariant = { λ l. (vec_len l.sections ≤ 200) × (200 ≤ vec_capacity l.sections) };
+    ghost invariant = { λ l. (vec_len l.sections ≤ 200) × (200 ≤ vec_capacity l.sections) × LawfulSections l.sections.items };
 }
 
 impl Line {
@@ -56,6 +58,7 @@ impl Line {
     pub fn sections(&self) -> &[Section]
         ensures sections { result.now ≡ self.now }
         ensures few { length self.now ≤ 200 }
+        ensures lawful { LawfulSections self.now }
     {
         &self.sections
     }
@@ -68,6 +71,7 @@ impl Line {
     }
 
     /// Appends a section at the end of the line.
+    #[tactic(auto, using(crate::proofs::Sections::lawful_push))]
     pub fn append(&mut self, figures: SectionFigures) -> Result<(), Refusal>
         ensures answer { told result ≡ first_no (appending self.old figures) }
         ensures held { self.new ≡ unless (told result) (self.old ++ figures ∷ []) self.old }
@@ -98,7 +102,8 @@ impl Line {
     /// The lowest low grade of the sections that share a point with the stretch from one place to another, every end
     /// counted; level where no section does.
     pub fn lowest_low_grade(&self, from: u32, to: u32) -> Grade
-        ensures { result ≡ lowest_low_grade (window from to self.now) }
+        ensures value { result ≡ lowest_low_grade (window from to self.now) }
+        ensures lawful { LawfulSections self.now }
     {
         let mut start: u32 = 0;
         let mut lowest: Option<Grade> = None;

@@ -1,5 +1,5 @@
 -- The numbered questions before every answer, one list for each call, in the order in which they are asked.
-use Rattle.std.specs.Prelude.{ℕ, ◌+◌, ◌*◌, Bool, cond, ◌&&◌, ◌||◌, leb, List, [], ◌∷◌, length, pos, negsuc, ◌==◌, int_le, nat_le, nat_lt}
+use Rattle.std.specs.Prelude.{ℕ, ◌+◌, ◌*◌, Bool, cond, ◌&&◌, ◌||◌, leb, List, [], ◌∷◌, length, pos, negsuc, ◌==◌, int_le, nat_le, nat_lt, All, IsTrue}
 use Rattle.rules.specs.declared.figures.VehicleFigures.{VehicleFigures}
 use Rattle.rules.specs.declared.figures.SectionFigures.{SectionFigures}
 use Rattle.rules.specs.Refusals.{Question, ◌otherwise◌, Reply, decide, first_no, stops}
@@ -34,6 +34,10 @@ lawful_section f =
     (nat_le 1 f.metres && nat_le f.metres 20000)
     && ((int_le (negsuc 399) f.gradient && int_le f.gradient (pos 400))
     && (nat_le f.curve f.metres && (lawful_curve f.curve f.radius && nat_le f.stop 1)))
+
+-- every one of some sections is lawful
+abbrev pub LawfulSections : List SectionFigures → Type 0
+LawfulSections = All (λ f. IsTrue (lawful_section f))
 
 abbrev pub appending : List SectionFigures → SectionFigures → List Question
 appending ss f = (lawful_section f otherwise 4) ∷ (nat_lt (length ss) 200 otherwise 5) ∷ []
