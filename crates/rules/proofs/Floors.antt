@@ -33,7 +33,7 @@ shifted_high : (d k n zu zd wu wd xu xd : ℕ) → n < k * d + d → wu + zd ≡
 shifted_high d k n zu zd wu wd xu xd h e f = omega (arith, ap (λ (t : ℕ). t * d) e)
 
 -- rounded up, likewise
-ceil_under : (q r d n : ℕ) → 1 ≤ d → q * d + r ≡ n → (q + min 1 r) * d < n + d
+pub ceil_under : (q r d n : ℕ) → 1 ≤ d → q * d + r ≡ n → (q + min 1 r) * d < n + d
 ceil_under q zero d n h e = omega arith
 ceil_under q (suc r) d n h e = let m : min 1 (suc r) ≡ 1 = omega arith in rw m (omega arith)
 

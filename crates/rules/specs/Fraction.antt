@@ -1,6 +1,8 @@
 -- Exact figures of either sign: fractions whose upper number is signed and whose lower one is at least 1.
-use Rattle.std.specs.Prelude.{ℕ, ◌/◌, ℤ, pos, negsuc, neg_ℤ}
+-- They are compared and summed by cross-multiplying.
+use Rattle.std.specs.Prelude.{ℕ, ◌*◌, ◌/◌, ◌≤◌, List, [], ◌∷◌, ℤ, pos, negsuc, ◌+ℤ◌, ◌*ℤ◌, ◌≤ℤ◌, neg_ℤ, cond, int_lt}
 use borrow.Author.Differences.{up, down}
+use Rattle.rules.specs.Ratio.{Ratio}
 
 pub record Fraction : Type 0 where
   pub num : ℤ
@@ -11,6 +13,48 @@ fraction z d = record { num = z; den = d }
 
 abbrev pub whole : ℤ → Fraction
 whole z = fraction z 1
+
+-- a figure that is never negative
+abbrev pub signed : Ratio → Fraction
+signed x = fraction (pos x.num) x.den
+
+-- the lower number is at least 1
+abbrev pub Proper : Fraction → Type 0
+Proper x = 1 ≤ x.den
+
+-- ---- order and sums
+
+-- x is at most y
+infix 50 ◌≤F◌
+pub record ◌≤F◌ (x y : Fraction) : Type 0 where
+  pub cross : (x.num *ℤ pos y.den) ≤ℤ (y.num *ℤ pos x.den)
+
+-- the lesser of two
+abbrev pub lesser : Fraction → Fraction → Fraction
+lesser x y = cond (int_lt (y.num *ℤ pos x.den) (x.num *ℤ pos y.den)) y x
+
+infixl 60 ◌+F◌
+abbrev pub ◌+F◌ : Fraction → Fraction → Fraction
+x +F y = fraction (x.num *ℤ pos y.den +ℤ y.num *ℤ pos x.den) (x.den * y.den)
+
+abbrev pub total : List Fraction → Fraction
+total [] = whole (pos 0)
+total (x ∷ xs) = x +F total xs
+
+-- n times x
+abbrev pub times : ℕ → Fraction → Fraction
+times n x = fraction (pos n *ℤ x.num) x.den
+
+-- x divided by a whole number of at least 1
+abbrev pub over : Fraction → ℕ → Fraction
+over x n = fraction x.num (x.den * n)
+
+-- x divided by y, which is positive
+infixl 70 ◌÷F◌
+abbrev pub ◌÷F◌ : Fraction → Fraction → Fraction
+x ÷F y = fraction (x.num *ℤ pos y.den) (x.den * up y.num)
+
+-- ---- rounding
 
 -- z over d, rounded down
 abbrev pub floored : ℤ → ℕ → ℤ
@@ -23,6 +67,8 @@ floor x = floored x.num x.den
 -- rounded up: the negative of its negative rounded down
 abbrev pub ceiling : Fraction → ℤ
 ceiling x = neg_ℤ (floored (neg_ℤ x.num) x.den)
+
+-- ---- whole numbers
 
 -- a number that is not negative, and 0 in the place of a negative one
 abbrev pub natural_of : ℤ → ℕ

@@ -1,5 +1,5 @@
 -- The number by which each refusal is told, and how numbered questions decide.
-use Rattle.std.specs.Prelude.{◌≡◌, ℕ, Bool, cond, List, [], ◌∷◌, ◌++◌, Some, None, Ok, Err, codes, decimal, Option, Result}
+use Rattle.std.specs.Prelude.{◌≡◌, ℕ, ◌⊎◌, Bool, true, false, cond, List, [], ◌∷◌, ◌++◌, All, Some, None, Ok, Err, codes, decimal, Option, Result}
 use Rattle.rules.specs.declared.figures.StopFigures.{StopFigures}
 use Rattle.rules.specs.declared.refusal.Refusal.{Refusal}
 use Rattle.rules.specs.declared.refusal.Refusal.TheVariants.{UnlawfulVehicle, TrainFull, NoSuchVehicle, UnlawfulSection, LineFull, UnlawfulBrakingDistance, QuestionOutOfRange, NoLocomotive, LineTooShort, WeakBrake, WeakStep, StopsTooFar, UnlawfulLaw}
@@ -42,6 +42,19 @@ b otherwise n = record { holds = b; number = n }
 abbrev pub first_no : List Question → Option ℕ
 first_no [] = None
 first_no (q ∷ qs) = cond q.holds (first_no qs) (Some q.number)
+
+-- n is the number of the first question whose answer is "no"
+abbrev pub Refuses : List Question → ℕ → Type 0
+Refuses [] n = ⊥
+Refuses (q ∷ qs) n = ((q.holds ≡ false) × (q.number ≡ n)) ⊎ ((q.holds ≡ true) × Refuses qs n)
+
+-- every question is answered "yes" and none refuses, or one number refuses and no other does
+abbrev pub DecidedOnce : List Question → Option ℕ → Type 0
+DecidedOnce qs None = All (λ q. q.holds ≡ true) qs × ((n : ℕ) → Refuses qs n → ⊥)
+DecidedOnce qs (Some m) = Refuses qs m × ((n : ℕ) → Refuses qs n → n ≡ m)
+
+abbrev pub QuestionsDecideOnce : Type 0
+QuestionsDecideOnce = (qs : List Question) → DecidedOnce qs (first_no qs)
 
 -- what a call leaves: the changed value where it is not refused, else the old one
 abbrev pub unless : {X : Type 0} → Option ℕ → X → X → X

@@ -1,6 +1,7 @@
 -- The stop question: how far a train runs from a place, at a speed, by a factor of full braking, until it stands.
 -- Speeds are in tenths of km/h, forces in milli, distances in millimetres.
 use Rattle.std.specs.Prelude.{ℕ, zero, suc, ◌+◌, ◌-◌, ◌*◌, ◌/◌, ◌<◌, min, max, Bool, true, ◌&&◌, ◌↔◌, List, [], ◌∷◌, map, ℤ, pos, ◌+ℤ◌, int_le}
+use Rattle.rules.specs.declared.figures.SectionFigures.{SectionFigures}
 use Rattle.rules.specs.Fraction.{natural_of, fall_of}
 use Rattle.rules.specs.Ratio.{ratio, rounded_down, rounded_up}
 use Rattle.rules.specs.Law.{Stock, Drag}
@@ -21,7 +22,11 @@ pub record Approach : Type 0 where
   pub reach : ℕ
   pub lowest : ℤ
 
--- from a place of the book, in metres from the start of the line
+-- the window of a stop from a place, in metres from the start of the line: the sections on which the train has to stand
+abbrev pub stop_window : Book → ℕ → List SectionFigures
+stop_window b place = window place (place + b.distance) b.sections
+
+-- from a place of the book
 abbrev pub approach_at : Stock → Book → ℕ → ℕ → Approach
 approach_at s b place factor =
     record {
@@ -32,7 +37,7 @@ approach_at s b place factor =
       pressure = brake_pressure b.vehicles;
       per_wagon = mass_per_wagon b.vehicles;
       reach = b.distance;
-      lowest = lowest_low_grade (window place (place + b.distance) b.sections);
+      lowest = lowest_low_grade (stop_window b place);
     }
 
 -- M = P + Q
@@ -104,9 +109,13 @@ least_force a v = least_of (brake_force a v) (map (λ s. natural_of (holding_for
 
 -- ---- distances
 
--- a step under the force n: 41,700 (y² − z²) / n, rounded up
+-- 41,700 (y² − z²)
+abbrev pub braking_work : Step → ℕ
+braking_work s = 41700 * (s.top * s.top - s.bottom * s.bottom)
+
+-- a step under the force n: that over n, rounded up
 unfoldable pub braking_run : Step → ℕ → ℕ
-braking_run s n = rounded_up (ratio (41700 * (s.top * s.top - s.bottom * s.bottom)) n)
+braking_run s n = rounded_up (ratio (braking_work s) n)
 
 -- all steps
 abbrev pub braking_distance : (Step → ℤ) → List Step → ℕ

@@ -1,4 +1,8 @@
 ghost use Rattle.rules.specs.Figures.{CheckedFigures};
+ghost use Rattle.rules.specs.Finer.{StepsFall};
+ghost use Rattle.rules.specs.Examples.{StopsMeet};
+ghost use Rattle.rules.specs.Promises.{ExactSumsAreFiner, StopsAreClose, StopsAreSafe};
+ghost use Rattle.rules.specs.Refusals.{QuestionsDecideOnce};
 ghost use Rattle.rules.specs.Stop.{EdgesAreCounted};
 ghost use Rattle.rules.specs.Table.{TablesGoThroughPoints};
 
@@ -10,6 +14,37 @@ pub fn edges_are_counted()
 /// A pull table goes through its points, and past the last of them there is no pull.
 pub fn tables_go_through_points()
     ensures { TablesGoThroughPoints }
+{}
+
+/// Numbered questions are all answered "yes", or exactly one number refuses.
+pub fn questions_decide_once()
+    ensures { QuestionsDecideOnce }
+{}
+
+/// The steps of a stop fall from its speed to a stand, through each edge below that and no other speed.
+pub fn steps_fall()
+    ensures { StepsFall }
+{}
+
+/// No finer reckoning of a stop is longer than the distance that is answered.
+pub fn stops_are_safe()
+    ensures { StopsAreSafe }
+{}
+
+/// The exact sum of a stop is the distance of one of its finer reckonings, so the distance answered is never under it.
+pub fn exact_sums_are_finer()
+    ensures { ExactSumsAreFiner }
+{}
+
+/// The distance that is answered exceeds the exact sum by no more than the surplus promised, and the allowance in whole
+/// millimetres is never under that.
+pub fn stops_are_close()
+    ensures { StopsAreClose }
+{}
+
+/// There are stops to which the promises apply, each with a finer reckoning.
+pub fn stops_meet()
+    ensures { StopsMeet }
 {}
 
 /// Laws, layers, grades and stops have their known values.
