@@ -3,8 +3,8 @@ ghost use Rattle.rules.specs.Kind.{kind};
 ghost use Rattle.rules.specs.Stop.{brake_force, drag_in, train_drag, holding_force, delay_run, braking_run};
 
 use crate::approach::Approach;
-use crate::edges::{edge, edges_below};
 use crate::step::Step;
+use crate::steps::Steps;
 use laws::{BrakeKind, Running, StockLaws};
 use rules::Refusal;
 use units::{BrakeRatio, Milli, Speed};
@@ -25,7 +25,7 @@ pub(crate) struct Run {
 }
 
 impl<'a, S: StockLaws> Braking<'a, S> {
-    ghost use Rattle.reckoning.specs.Brakings.{train_of, Braked};
+    ghost use Rattle.reckoning.specs.Brakings.{train_of, StepAdded, Braked};
 
     pub(crate) fn new(approach: Approach, stock: &'a S) -> Braking<'a, S>
         ensures approach { result.approach ≡ approach }
@@ -94,7 +94,21 @@ impl<'a, S: StockLaws> Braking<'a, S> {
             .holding_milli(self.brake_force(step.top()), self.drag(step))
     }
 
-    // The steps of a stop from a speed under a brake force; refused where a force does not hold the train.
+    // The run with one step more; refused where the train is not held in it.
+    fn with_step(&self, run: Run, step: Step) -> Result<Run, Refusal>
+        requires few { run.distance ≤ 26 * 106752000000 }
+        requires steps { run.steps ≤ 26 }
+        ensures { StepAdded (holding_force (train_of S.meaning self.now)) step run result }
+    {
+        let force = self.holding(step);
+        if force < 1000 {
+            return Err(Refusal::WeakStep);
+        }
+        Ok(run.with(step, force as u64))
+    }
+
+    // The steps of a stop from a speed under a brake force; refused where the train is not held in one.
+    #[tactic(auto, using(crate::proofs::Brakings::begins, crate::proofs::Brakings::room, crate::proofs::Brakings::again, crate::proofs::Brakings::gives_way, crate::proofs::Brakings::ends))]
     pub(crate) fn run(&self, v: Speed, brake: Milli) -> Result<Run, Refusal>
         ensures { Braked (holding_force (train_of S.meaning self.now)) brake v result }
     {
@@ -103,16 +117,8 @@ impl<'a, S: StockLaws> Braking<'a, S> {
             least: u64::from(brake.count()),
             steps: 0,
         };
-        let mut top = v;
-        // An edge is a formula of its number, so these are gone through, and no list of edges.
-        for k in (0..edges_below(v)).rev() {
-            let step = Step::new(top, edge(k));
-            let force = self.holding(step);
-            if force < 1000 {
-                return Err(Refusal::WeakStep);
-            }
-            run = run.with(step, force as u64);
-            top = step.bottom();
+        for step in Steps::from(v) {
+            run = self.with_step(run, step)?;
         }
         Ok(run)
     }

@@ -7,6 +7,7 @@ mod braking;
 mod edges;
 pub mod questions;
 mod step;
+mod steps;
 
 pub use allowances::allowance;
 pub use approach::Approach;
