@@ -1,4 +1,4 @@
-ghost use Rattle.std.specs.Prelude.{◌≡◌, ◌+◌, ◌≤◌};
+ghost use Rattle.std.specs.Prelude.{◌≡◌, ◌+◌, ◌≤◌, IfOk};
 ghost use Rattle.rules.specs.Book.{per_wagon};
 ghost use Rattle.rules.specs.Questions.{place_in_range, stopping, stop_figures};
 ghost use Rattle.rules.specs.Kind.{kind};
@@ -32,10 +32,14 @@ pub struct Approach {
 
 impl Approach {
     ghost use Rattle.reckoning.specs.Approaches.{approach_of, Approached};
+    ghost use Rattle.rules.specs.Law.{Stock};
+    ghost use Rattle.rules.specs.Promises.{LawfulApproach};
+    ghost use Rattle.rules.specs.Stop.{approach_at, stop_window};
 
     /// The approach from a place of the sheet, in metres from the start of the line, by a factor in tenths of full braking.
     pub fn of(sheet: &Sheet, place: u32, factor: u32) -> Result<Approach, Refusal>
-        ensures { Approached sheet.now place factor result }
+        ensures value { Approached sheet.now place factor result }
+        ensures lawful { IfOk result (λ _. (s : Stock) → LawfulApproach (approach_at s sheet.now place factor) (stop_window sheet.now place)) }
     {
         if !is_in_range(place, factor) {
             return Err(Refusal::QuestionOutOfRange);

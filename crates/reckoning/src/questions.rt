@@ -1,7 +1,8 @@
 ghost use Rattle.rules.specs.Kind.{kind};
-ghost use Rattle.rules.specs.Questions.{asked_to_stop};
-ghost use Rattle.rules.specs.Refusals.{stop_reply};
-ghost use Rattle.std.specs.Prelude.{◌≡◌};
+ghost use Rattle.rules.specs.Promises.{NoFinerIsLonger, SurplusIsBounded};
+ghost use Rattle.rules.specs.Questions.{asked_to_stop, stop_questions};
+ghost use Rattle.rules.specs.Refusals.{DecidedOnce, stop_reply, told};
+ghost use Rattle.std.specs.Prelude.{◌≡◌, IfOk};
 
 use crate::approach::Approach;
 use laws::{BrakeKind, StockLaws};
@@ -15,7 +16,10 @@ pub fn stop<K: BrakeKind, S: StockLaws>(
     stock: &S,
     question: StopQuestion,
 ) -> Result<StopFigures, Refusal>
-    ensures { stop_reply result ≡ asked_to_stop (kind K.T K.C) (S.meaning stock.now) sheet.now question.place question.speed question.factor }
+    ensures figures { stop_reply result ≡ asked_to_stop (kind K.T K.C) (S.meaning stock.now) sheet.now question.place question.speed question.factor }
+    ensures decided { DecidedOnce (stop_questions (kind K.T K.C) (S.meaning stock.now) sheet.now question.place question.speed question.factor) (told result) }
+    ensures safe { IfOk result (NoFinerIsLonger (kind K.T K.C) (S.meaning stock.now) sheet.now question) }
+    ensures close { IfOk result (SurplusIsBounded (kind K.T K.C) (S.meaning stock.now) sheet.now question) }
 {
     let v = Speed::from_tenths(question.speed).ok_or(Refusal::QuestionOutOfRange)?;
     let approach = Approach::of(sheet, question.place, question.factor)?;

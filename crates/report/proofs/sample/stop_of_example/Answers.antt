@@ -32,6 +32,6 @@ returns c =
     let percent = ap (λ (p : Scale PullTable). p.percent) told.pull ∙ pull.1 in
     let laws = same_laws (points, percent) told.pulling told.coasting in
     let q = c.full_braking-question in
-    c.stop.ensures
+    c.stop.ensures.figures
     ∙ ap (λ s. asked_to_stop freight s c.args.sheet.now q.result.place q.result.speed q.result.factor) laws
     ∙ ap (λ (r : StopQuestion). asked_to_stop freight (example_stock example_pull) c.args.sheet.now r.place r.speed r.factor) q.ensures
