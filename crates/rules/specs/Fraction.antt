@@ -1,7 +1,6 @@
--- Exact figures of either sign: fractions whose upper number is signed and whose lower one is at least 1.
--- They are compared and summed by cross-multiplying.
-use Rattle.std.specs.Prelude.{ℕ, ◌*◌, ◌/◌, ◌≤◌, List, [], ◌∷◌, ℤ, pos, negsuc, ◌+ℤ◌, ◌*ℤ◌, ◌≤ℤ◌, neg_ℤ, cond, int_lt}
-use borrow.Author.Differences.{up, down}
+-- Exact figures of either sign: fractions whose upper number is signed. They are compared and summed by cross-multiplying, which
+-- means something where the lower number is at least 1 (`Proper`).
+use Rattle.std.specs.Prelude.{ℕ, suc, ◌*◌, ◌/◌, ◌≤◌, List, [], ◌∷◌, ℤ, pos, negsuc, ◌+ℤ◌, ◌*ℤ◌, ◌≤ℤ◌, neg_ℤ, cond, int_lt}
 use Rattle.rules.specs.Ratio.{Ratio}
 
 pub record Fraction : Type 0 where
@@ -21,6 +20,22 @@ signed x = fraction (pos x.num) x.den
 -- the lower number is at least 1
 abbrev pub Proper : Fraction → Type 0
 Proper x = 1 ≤ x.den
+
+-- ---- whole numbers
+
+-- a number that is not negative, and 0 in the place of a negative one
+abbrev pub natural_of : ℤ → ℕ
+natural_of (pos n) = n
+natural_of (negsuc n) = 0
+
+-- how far a number lies under 0, and 0 where it does not
+abbrev pub fall_of : ℤ → ℕ
+fall_of (pos n) = 0
+fall_of (negsuc n) = suc n
+
+-- a proper fraction over 0
+abbrev pub Positive : Fraction → Type 0
+Positive x = Proper x × (1 ≤ natural_of x.num)
 
 -- ---- order and sums
 
@@ -49,10 +64,10 @@ times n x = fraction (pos n *ℤ x.num) x.den
 abbrev pub over : Fraction → ℕ → Fraction
 over x n = fraction x.num (x.den * n)
 
--- x divided by y, which is positive
+-- x divided by a positive y; by another the lower number is 0, and that is no figure
 infixl 70 ◌÷F◌
 abbrev pub ◌÷F◌ : Fraction → Fraction → Fraction
-x ÷F y = fraction (x.num *ℤ pos y.den) (x.den * up y.num)
+x ÷F y = fraction (x.num *ℤ pos y.den) (x.den * natural_of y.num)
 
 -- ---- rounding
 
@@ -67,13 +82,3 @@ floor x = floored x.num x.den
 -- rounded up: the negative of its negative rounded down
 abbrev pub ceiling : Fraction → ℤ
 ceiling x = neg_ℤ (floored (neg_ℤ x.num) x.den)
-
--- ---- whole numbers
-
--- a number that is not negative, and 0 in the place of a negative one
-abbrev pub natural_of : ℤ → ℕ
-natural_of z = up z
-
--- how far a number lies under 0, and 0 where it does not
-abbrev pub fall_of : ℤ → ℕ
-fall_of z = down z
