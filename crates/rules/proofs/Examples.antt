@@ -85,10 +85,10 @@ lawful_approach : (i : ℤ) → IsTrue (lawful_section (long_section i)) → Law
 lawful_approach i h =
     record {
       factor = lit≤ tt;
-      heavy = lit≤ tt;
+      mass = lit≤ tt;
       pressed = lit≤ tt;
-      light = lit≤ tt;
-      laden = lit≤ tt;
+      least = lit≤ tt;
+      most = lit≤ tt;
       some = lit≤ tt;
       sections = one_lawful (long_section i) h;
       lowest = refl;

@@ -59,8 +59,8 @@ module _ (a : Approach) (w : List SectionFigures) (laws : LawfulStock a.laws) (l
       let e = mean_under (train_drag a s) (train_mass a) (a.hauling * c.below s.bottom q) (a.trailing * g.below s.bottom q) (cx.den * gx.den)
       (a.hauling * cx.num * gx.den) (a.trailing * gx.num * cx.den)
       (div-mul-le_self (a.hauling * c.below s.bottom q + a.trailing * g.below s.bottom q) (train_mass a))
-      (first_under a.hauling (c.below s.bottom q) cx.den cx.num gx.den (drag_under c laws.coasting s.bottom r.coasting q h hc l.light l.laden))
-      (second_under a.trailing (g.below s.bottom q) cx.den gx.num gx.den (drag_under g laws.wagon s.bottom r.wagon q i hw l.light l.laden)) in
+      (first_under a.hauling (c.below s.bottom q) cx.den cx.num gx.den (drag_under c laws.coasting s.bottom r.coasting q h hc l.least l.most))
+      (second_under a.trailing (g.below s.bottom q) cx.den gx.num gx.den (drag_under g laws.wagon s.bottom r.wagon q i hw l.least l.most)) in
       made (whole (pos (train_drag a s))) (exact_train_drag a r) (omega (arith, e))
 
   pub force_under : (s : Step) (r : Readings) (g : Fraction) → s.top ≤ 1600 → IsIn s r.friction → IsIn s r.coasting → IsIn s r.wagon → whole a.lowest ≤F g
@@ -80,10 +80,10 @@ module _ (a : Approach) (w : List SectionFigures) (laws : LawfulStock a.laws) (l
   -- ---- their denominators
 
   pub brake_proper : (f : ℕ) → f ≤ 1600 → Proper (exact_brake_force a f)
-  brake_proper f h = let p : 1 ≤ 10 * train_mass a = omega (arith, l.heavy) in mul-pos (laws.friction.reads f h).proper p
+  brake_proper f h = let p : 1 ≤ 10 * train_mass a = omega (arith, l.mass) in mul-pos (laws.friction.reads f h).proper p
 
   pub force_proper : (r : Readings) (g : Fraction) → r.friction ≤ 1600 → r.coasting ≤ 1600 → r.wagon ≤ 1600 → Proper g → Proper (exact_holding_force a r g)
   force_proper r g hf hc hw p =
-      let c = (laws.coasting.reads r.coasting a.per_wagon hc l.light l.laden).proper in
-      let d = (laws.wagon.reads r.wagon a.per_wagon hw l.light l.laden).proper in
-      mul-pos (mul-pos (brake_proper r.friction hf) (mul-pos (mul-pos c d) l.heavy)) p
+      let c = (laws.coasting.reads r.coasting a.per_wagon hc l.least l.most).proper in
+      let d = (laws.wagon.reads r.wagon a.per_wagon hw l.least l.most).proper in
+      mul-pos (mul-pos (brake_proper r.friction hf) (mul-pos (mul-pos c d) l.mass)) p

@@ -7,10 +7,10 @@ use Rattle.rules.specs.declared.refusal.Refusal.{Refusal}
 use Rattle.rules.specs.Book.{Book, locomotives, hauling_mass, trailing_mass, brake_pressure, mass_per_wagon, line_length}
 use Rattle.rules.specs.Kind.{Kind, LawfulKind}
 use Rattle.rules.specs.Law.{Stock, LawfulStock}
-use Rattle.rules.specs.Questions.{lawful_section, LawfulSections, place_in_range, reaches, stop_questions, asked_to_stop}
+use Rattle.rules.specs.Questions.{figures_of, lawful_section, LawfulSections, place_in_range, reaches, stop_questions, asked_to_stop}
 use Rattle.rules.specs.Refusals.{Question, first_no, DecidedOnce, stop_reply, told}
 use Rattle.rules.specs.Stop.{Approach, approach_at, stop_window}
-use Rattle.rules.specs.Promises.{LawfulApproach, LawfulStop, Answered, figures_of, NoFinerIsLonger, SurplusIsBounded}
+use Rattle.rules.specs.Promises.{LawfulApproach, LawfulStop, Answered, NoFinerIsLonger, SurplusIsBounded}
 use Rattle.rules.proofs.Asked.{both, holds}
 use Rattle.rules.proofs.Decisions.{decided_once, told_decides, same_figures}
 use Rattle.rules.proofs.Windows.{some_section, all_in_window}
@@ -26,10 +26,10 @@ pub lawful_approach : (s : Stock) (b : Book) (place factor : ℕ) → factor ≤
 lawful_approach s b place factor few heavy pressed light laden some reached lawful =
     record {
       factor = few;
-      heavy = omega (arith, heavy);
+      mass = omega (arith, heavy);
       pressed = pressed;
-      light = light;
-      laden = laden;
+      least = light;
+      most = laden;
       some = some_section place (place + b.distance) b.sections (omega arith) (omega arith);
       sections = all_in_window (λ f. IsTrue (lawful_section f)) place (place + b.distance) b.sections lawful;
       lowest = refl;

@@ -80,7 +80,7 @@ module _ (a : Approach) (w : List SectionFigures) (laws : LawfulStock a.laws) (l
   brake_near : (y : ℕ) → y ≤ 1600 → exact_brake_force a y ≤F whole (pos (brake_force a y + a.laws.friction.slack + 1))
   unfolding brake_force
   brake_near y h =
-      let m = l.heavy in
+      let m = l.mass in
       let f = a.laws.friction in
       let x = f.exact y in
       let r = laws.friction.reads y h in
@@ -96,13 +96,13 @@ module _ (a : Approach) (w : List SectionFigures) (laws : LawfulStock a.laws) (l
   drag_near s h =
       let q = a.per_wagon in
       let z = s.bottom in
-      let m = l.heavy in
+      let m = l.mass in
       let c = a.laws.coasting in
       let g = a.laws.wagon in
       let cx = c.exact z q in
       let gx = g.exact z q in
-      let cr = laws.coasting.reads z q h l.light l.laden in
-      let gr = laws.wagon.reads z q h l.light l.laden in
+      let cr = laws.coasting.reads z q h l.least l.most in
+      let gr = laws.wagon.reads z q h l.least l.most in
       let cn : cx.num ≤ (c.below z q + drag_slack) * cx.den = slack_over cx.num cx.den (c.below z q) (c.above z q) c.slack drag_slack cr.over cr.close (omega arith) in
       let gn : gx.num ≤ (g.below z q + drag_slack) * gx.den = slack_over gx.num gx.den (g.below z q) (g.above z q) g.slack drag_slack gr.over gr.close (omega arith) in
       let i = lt-div-mul-add {a = a.hauling * c.below z q + a.trailing * g.below z q} m in

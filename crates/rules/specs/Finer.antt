@@ -1,7 +1,7 @@
 -- Finer reckonings of a stop: of the same train over the same window, by exact fractions, through at least the same edges.
 use Rattle.std.specs.Prelude.{◌≡◌, ℕ, ◌<◌, ◌≤◌, ◌↔◌, List, [], ◌∷◌, map, All, Contains}
 use Rattle.rules.specs.declared.figures.SectionFigures.{SectionFigures}
-use Rattle.rules.specs.Fraction.{Fraction, ◌+F◌, total}
+use Rattle.rules.specs.Fraction.{Fraction, Proper, Positive, ◌+F◌, total}
 use Rattle.rules.specs.Grade.{grade}
 use Rattle.rules.specs.Kind.{Kind}
 use Rattle.rules.specs.Stop.{Approach, Step, edge, steps_from}
@@ -48,10 +48,20 @@ pub record Finer (w : List SectionFigures) (v : ℕ) (r : Reckoning) : Type 0 wh
   pub reads : All (ReadsIn w) r.parts
   pub delay : Contains w r.delayed_on
 
+-- the force that holds the train back in a part
+abbrev pub part_force : Approach → Part → Fraction
+part_force a p = exact_holding_force a p.at (grade p.on)
+
 abbrev pub part_distance : Approach → Part → Fraction
-part_distance a p = exact_run p.run (exact_holding_force a p.at (grade p.on))
+part_distance a p = exact_run p.run (part_force a p)
 
 -- its distance: the delay, which reads friction at v, and all parts
 abbrev pub finer_distance : Kind → Approach → ℕ → Reckoning → Fraction
 finer_distance k a v r =
     exact_delay k v (exact_brake_force a v) (grade r.delayed_on) +F total (map (part_distance a) r.parts)
+
+-- every force that its distance is divided by is positive, and the distance is a proper fraction
+pub record HasDistance (k : Kind) (a : Approach) (v : ℕ) (r : Reckoning) : Type 0 where
+  pub brake : Positive (exact_brake_force a v)
+  pub parts : All (λ p. Positive (part_force a p)) r.parts
+  pub proper : Proper (finer_distance k a v r)

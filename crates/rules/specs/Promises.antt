@@ -8,27 +8,27 @@ use Rattle.rules.specs.Fraction.{Fraction, Proper, whole, ◌≤F◌, ◌+F◌, 
 use Rattle.rules.specs.Law.{Stock, LawfulStock}
 use Rattle.rules.specs.Kind.{Kind, LawfulKind}
 use Rattle.rules.specs.Grade.{lowest_low_grade}
-use Rattle.rules.specs.Stop.{Approach, approach_at, stop_window, train_mass, distance, least_force, steps_from}
+use Rattle.rules.specs.Stop.{Approach, approach_at, stop_window, train_mass, distance}
 use Rattle.rules.specs.Exact.{exact_sum}
-use Rattle.rules.specs.Finer.{Reckoning, Finer, finer_distance}
+use Rattle.rules.specs.Finer.{Reckoning, Finer, finer_distance, HasDistance}
 use Rattle.rules.specs.Allowance.{combined_slack, allowance}
-use Rattle.rules.specs.Questions.{LawfulSections, stopping}
+use Rattle.rules.specs.Questions.{LawfulSections, stopping, figures_of}
 use Rattle.rules.specs.Refusals.{first_no}
 
 -- ---- of a stop from v, by an approach over its window w
 
--- no finer reckoning is longer than the distance d, and each has a distance at all
+-- each finer reckoning has a distance, and none is longer than d
 abbrev pub IsSafe : Kind → Approach → List SectionFigures → ℕ → ℕ → Type 0
 IsSafe k a w v d =
-    (r : Reckoning) → Finer w v r → Proper (finer_distance k a v r) × (finer_distance k a v r ≤F whole (pos d))
+    (r : Reckoning) → Finer w v r → HasDistance k a v r × (finer_distance k a v r ≤F whole (pos d))
 
 -- the surplus that figures may have over the exact sum: 1 mm a step, 1 mm for the delay, and the share e/m of that sum
 abbrev pub promised_surplus : Kind → Approach → List SectionFigures → ℕ → StopFigures → Fraction
 promised_surplus k a w v s =
     whole (pos (s.steps + 1)) +F over (times (combined_slack a.laws) (exact_sum k a w v)) s.least
 
--- the distance is never under the exact sum and exceeds it by no more than that surplus, and the allowance in whole
--- millimetres is never under the surplus
+-- the least force is at least 1,000; the distance is never under the exact sum and exceeds it by no more than that surplus, and
+-- the allowance in whole millimetres is never under the surplus
 pub record IsClose (k : Kind) (a : Approach) (w : List SectionFigures) (v : ℕ) (s : StopFigures) : Type 0 where
   pub proper : Proper (exact_sum k a w v)
   pub strong : 1000 ≤ s.least
@@ -51,10 +51,10 @@ SurplusIsBounded k s b q t = IsClose k (approach_at s b q.place q.factor) (stop_
 -- what every approach from a sheet keeps, and its window w
 pub record LawfulApproach (a : Approach) (w : List SectionFigures) : Type 0 where
   pub factor : a.factor ≤ 10
-  pub heavy : 1 ≤ train_mass a
+  pub mass : 1 ≤ train_mass a
   pub pressed : a.pressure ≤ train_mass a
-  pub light : 50 ≤ a.per_wagon
-  pub laden : a.per_wagon ≤ 2000
+  pub least : 50 ≤ a.per_wagon
+  pub most : a.per_wagon ≤ 2000
   pub some : 1 ≤ length w
   pub sections : LawfulSections w
   pub lowest : a.lowest ≡ lowest_low_grade w
@@ -68,10 +68,6 @@ pub record LawfulStop (k : Kind) (a : Approach) (w : List SectionFigures) (v : �
 -- no question refuses it
 abbrev pub Answered : Kind → Approach → ℕ → Type 0
 Answered k a v = first_no (stopping k a v) ≡ None
-
--- the figures of a stop
-abbrev pub figures_of : Kind → Approach → ℕ → StopFigures
-figures_of k a v = record { distance = distance k a v; least = least_force a v; steps = length (steps_from v) }
 
 abbrev pub StopsAreSafe : Type 0
 StopsAreSafe =

@@ -1,8 +1,9 @@
 -- The numbered questions before every answer, one list for each call, in the order in which they are asked.
-use Rattle.std.specs.Prelude.{ℕ, ◌+◌, ◌*◌, Bool, cond, ◌&&◌, ◌||◌, leb, List, [], ◌∷◌, length, pos, negsuc, ◌==◌, int_le, nat_le, nat_lt, All, IsTrue}
+use Rattle.std.specs.Prelude.{ℕ, ◌+◌, ◌*◌, Bool, cond, ◌&&◌, ◌||◌, leb, List, [], ◌∷◌, length, pos, negsuc, ◌==◌, int_le, nat_le, nat_lt, All, IsTrue, Ok}
 use Rattle.rules.specs.declared.figures.VehicleFigures.{VehicleFigures}
 use Rattle.rules.specs.declared.figures.SectionFigures.{SectionFigures}
-use Rattle.rules.specs.Refusals.{Question, ◌otherwise◌, Reply, decide, first_no, stops}
+use Rattle.rules.specs.declared.figures.StopFigures.{StopFigures}
+use Rattle.rules.specs.Refusals.{Question, ◌otherwise◌, Reply, decide, first_no, stop_reply}
 use Rattle.rules.specs.Law.{Stock}
 use Rattle.rules.specs.Kind.{Kind}
 use Rattle.rules.specs.Book.{Book, Vehicle, locomotive_letter, wagon_letter, locomotives, line_length}
@@ -74,9 +75,12 @@ abbrev pub stop_questions : Kind → Stock → Book → ℕ → ℕ → ℕ → 
 stop_questions k s b place speed factor =
     approaching (nat_le speed 1600) b place factor (stopping k (approach_at s b place factor) speed)
 
--- the figures of an answered stop: distance, least force, number of steps
+-- the figures of an answered stop
+abbrev pub figures_of : Kind → Approach → ℕ → StopFigures
+figures_of k a v = record { distance = distance k a v; least = least_force a v; steps = length (steps_from v) }
+
 abbrev pub stop_figures : Kind → Approach → ℕ → Reply
-stop_figures k a v = stops (distance k a v) (least_force a v) (length (steps_from v))
+stop_figures k a v = stop_reply (Ok (figures_of k a v))
 
 -- what the book answers to a stop question
 abbrev pub asked_to_stop : Kind → Stock → Book → ℕ → ℕ → ℕ → Reply
