@@ -1,5 +1,5 @@
 -- Concrete stops to which the promises apply.
-use Rattle.std.proofs.Common.{ℕ, zero, suc, ◌*◌, ◌<◌, ◌≤◌, inl, inr, [], ◌∷◌, map, All, IsTrue, ℤ, pos, negsuc, sym, refl, subst, lit≤, arith}
+use Rattle.std.proofs.Common.{List, ℕ, zero, suc, ◌*◌, ◌<◌, ◌≤◌, inl, inr, [], ◌∷◌, map, IsTrue, ℤ, pos, negsuc, sym, refl, subst, lit≤, arith}
 use Rattle.std.proofs.lemmas.List.Elements.{All-nil, All-cons}
 use Rattle.rules.specs.declared.figures.SectionFigures.{SectionFigures}
 use Rattle.rules.specs.Ratio.{Ratio, AtMost}
@@ -8,10 +8,10 @@ use Rattle.rules.specs.Formulas.{cast_iron, no_pull, wagon_drag, df4, df4_a, df4
 use Rattle.rules.specs.Kind.{LawfulKind, freight}
 use Rattle.rules.specs.Stop.{edge, brake_force, train_drag, holding_force, braking_run, delay_run}
 use Rattle.rules.specs.Finer.{Part, ReadsIn, Finer}
-use Rattle.rules.specs.Questions.{lawful_section}
+use Rattle.rules.specs.Questions.{lawful_section, LawfulSections}
 use Rattle.rules.specs.Promises.{LawfulApproach, Answered}
-use Rattle.rules.specs.Sample.{long_section, example_stock}
-use Rattle.rules.specs.Examples.{example_approach, example_window, part_from, five_parts, IsMet, StopsMeet}
+use Rattle.rules.specs.Sample.{example_stock}
+use Rattle.rules.specs.Examples.{stretch, example_approach, example_window, part_from, five_parts, Applies, PromisesApply}
 use Rattle.rules.proofs.Formulas.{wagon_rises, quadratic_cap, quadratic_rises}
 use Rattle.rules.proofs.Members.{In, contained, to_all}
 use Rattle.rules.proofs.Readings.{rounded_reads}
@@ -48,40 +48,47 @@ freight_lawful = record { some = lit≤ tt; few = lit≤ tt; mild = lit≤ tt }
 
 -- ---- the finer reckoning
 
-module _ (s : SectionFigures) where
-  edge_in : (k : ℕ) → edge k < 250 → In (edge k) (map (λ p. p.run.bottom) (five_parts s).parts)
+module _ (one other : SectionFigures) where
+  abbrev parts : List Part
+  parts = (five_parts one other).parts
+
+  abbrev both : List SectionFigures
+  both = one ∷ other ∷ []
+
+  edge_in : (k : ℕ) → edge k < 250 → In (edge k) (map (λ p. p.run.bottom) parts)
   edge_in zero h = inr (inr (inr (inr (inl refl))))
   edge_in (suc zero) h = inr (inr (inl refl))
   edge_in (suc (suc zero)) h = inl refl
   edge_in (suc (suc (suc k))) h = absurd (omega arith)
 
-  within : (y z f c g : ℕ) → z ≤ f → f ≤ y → z ≤ c → c ≤ y → z ≤ g → g ≤ y → ReadsIn (s ∷ []) (part_from s y z f c g)
-  within y z f c g zf fy zc cy zg gy =
-      record { friction = (zf, fy); coasting = (zc, cy); wagon = (zg, gy); grade = contained (s ∷ []) s (inl refl) }
+  within : (s : SectionFigures) (y z f c g : ℕ) → In s both → z ≤ f → f ≤ y → z ≤ c → c ≤ y → z ≤ g → g ≤ y → ReadsIn both (part_from s y z f c g)
+  within s y z f c g i zf fy zc cy zg gy =
+      record { friction = (zf, fy); coasting = (zc, cy); wagon = (zg, gy); grade = contained both s i }
 
-  each_reads : (p : Part) → In p (five_parts s).parts → ReadsIn (s ∷ []) p
-  each_reads p (inl e) = subst (ReadsIn (s ∷ [])) (sym e) (within 250 200 225 240 200 (lit≤ tt) (lit≤ tt) (lit≤ tt) (lit≤ tt) (lit≤ tt) (lit≤ tt))
-  each_reads p (inr (inl e)) = subst (ReadsIn (s ∷ [])) (sym e) (within 200 150 150 160 170 (lit≤ tt) (lit≤ tt) (lit≤ tt) (lit≤ tt) (lit≤ tt) (lit≤ tt))
-  each_reads p (inr (inr (inl e))) = subst (ReadsIn (s ∷ [])) (sym e) (within 150 100 100 150 150 (lit≤ tt) (lit≤ tt) (lit≤ tt) (lit≤ tt) (lit≤ tt) (lit≤ tt))
-  each_reads p (inr (inr (inr (inl e)))) = subst (ReadsIn (s ∷ [])) (sym e) (within 100 1 50 50 50 (lit≤ tt) (lit≤ tt) (lit≤ tt) (lit≤ tt) (lit≤ tt) (lit≤ tt))
-  each_reads p (inr (inr (inr (inr (inl e))))) = subst (ReadsIn (s ∷ [])) (sym e) (within 1 0 0 0 1 (lit≤ tt) (lit≤ tt) (lit≤ tt) (lit≤ tt) (lit≤ tt) (lit≤ tt))
+  each_reads : (p : Part) → In p parts → ReadsIn both p
+  each_reads p (inl e) = subst (ReadsIn both) (sym e) (within one 250 200 225 240 200 (inl refl) (lit≤ tt) (lit≤ tt) (lit≤ tt) (lit≤ tt) (lit≤ tt) (lit≤ tt))
+  each_reads p (inr (inl e)) = subst (ReadsIn both) (sym e) (within other 200 150 150 160 170 (inr (inl refl)) (lit≤ tt) (lit≤ tt) (lit≤ tt) (lit≤ tt) (lit≤ tt) (lit≤ tt))
+  each_reads p (inr (inr (inl e))) = subst (ReadsIn both) (sym e) (within one 150 100 100 150 150 (inl refl) (lit≤ tt) (lit≤ tt) (lit≤ tt) (lit≤ tt) (lit≤ tt) (lit≤ tt))
+  each_reads p (inr (inr (inr (inl e)))) = subst (ReadsIn both) (sym e) (within other 100 1 50 50 50 (inr (inl refl)) (lit≤ tt) (lit≤ tt) (lit≤ tt) (lit≤ tt) (lit≤ tt) (lit≤ tt))
+  each_reads p (inr (inr (inr (inr (inl e))))) = subst (ReadsIn both) (sym e) (within one 1 0 0 0 1 (inl refl) (lit≤ tt) (lit≤ tt) (lit≤ tt) (lit≤ tt) (lit≤ tt) (lit≤ tt))
   each_reads p (inr (inr (inr (inr (inr i))))) = absurd i
 
-  is_finer : Finer (s ∷ []) 250 (five_parts s)
+  is_finer : Finer both 250 (five_parts one other)
   is_finer =
       record {
         falls = (refl, lit≤ tt, (refl, lit≤ tt, (refl, lit≤ tt, (refl, lit≤ tt, (refl, lit≤ tt, refl)))));
-        edges = λ k h. contained (map (λ p. p.run.bottom) (five_parts s).parts) (edge k) (edge_in k h);
-        reads = to_all (ReadsIn (s ∷ [])) (five_parts s).parts each_reads;
-        delay = contained (s ∷ []) s (inl refl);
+        edges = λ k h. contained (map (λ p. p.run.bottom) parts) (edge k) (edge_in k h);
+        reads = to_all (ReadsIn both) parts each_reads;
+        delay = contained both other (inr (inl refl));
       }
 
 -- ---- the stops
 
-one_lawful : (f : SectionFigures) → IsTrue (lawful_section f) → All (λ f. IsTrue (lawful_section f)) (f ∷ [])
-one_lawful f h = All-cons (λ f. IsTrue (lawful_section f)) f [] h (All-nil (λ f. IsTrue (lawful_section f)))
+two_lawful : (f g : SectionFigures) → IsTrue (lawful_section f) → IsTrue (lawful_section g) → LawfulSections (f ∷ g ∷ [])
+two_lawful f g h k =
+    All-cons (λ f. IsTrue (lawful_section f)) f (g ∷ []) h (All-cons (λ f. IsTrue (lawful_section f)) g [] k (All-nil (λ f. IsTrue (lawful_section f))))
 
-lawful_approach : (i : ℤ) → IsTrue (lawful_section (long_section i)) → LawfulApproach (example_approach i) (example_window i)
+lawful_approach : (i : ℤ) → IsTrue (lawful_section (stretch i)) → LawfulApproach (example_approach i) (example_window i)
 lawful_approach i h =
     record {
       factor = lit≤ tt;
@@ -90,18 +97,18 @@ lawful_approach i h =
       least = lit≤ tt;
       most = lit≤ tt;
       some = lit≤ tt;
-      sections = one_lawful (long_section i) h;
+      sections = two_lawful (stretch i) (stretch (pos 0)) h refl;
       lowest = refl;
     }
 
-met : (i : ℤ) → IsTrue (lawful_section (long_section i)) → Answered freight (example_approach i) 250 → IsMet i
-met i h none =
+applies : (i : ℤ) → IsTrue (lawful_section (stretch i)) → Answered freight (example_approach i) 250 → Applies i
+applies i h none =
     record {
       lawful = record { kind = freight_lawful; laws = example_lawful; approach = lawful_approach i h; speed = lit≤ tt };
       answered = none;
-      finer = is_finer (long_section i);
+      finer = is_finer (stretch i) (stretch (pos 0));
     }
 
-pub stops_meet : StopsMeet
+pub promises_apply : PromisesApply
 unfolding brake_force train_drag holding_force braking_run delay_run
-stops_meet = record { level = met (pos 0) refl refl; falling = met (negsuc 99) refl refl; rising = met (pos 100) refl refl }
+promises_apply = record { falling = applies (negsuc 99) refl refl; rising = applies (pos 100) refl refl }

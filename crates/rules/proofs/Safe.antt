@@ -281,8 +281,7 @@ module _ (a : Approach) (w : List SectionFigures) (laws : LawfulStock a.laws) (l
   part_positive p t r h =
       let rf = r.friction in
       let rc = r.coasting in
-      let rw' = r.wagon in
-      (
+      let rw' = r.wagon in (
         force_proper a w laws l p.at (grade p.on) (omega arith) (omega arith) (omega arith) (grade_proper_of a w l p.on r.grade),
         (factors 1 (up (part_force a p).num) h).1,
       )
@@ -311,9 +310,9 @@ stops_are_safe k a w v l none r f =
         brake = brake_positive a w l.laws l.approach v l.speed h.strong;
         parts =
             to_all (λ p. Positive (part_force a p)) r.parts (λ p i.
-              let top = tops_under v r.parts f.falls p i in
-              part_positive a w l.laws l.approach p (omega (arith, top, l.speed)) (of_all (ReadsIn w) r.parts f.reads p i)
-              (each_proper (part_distance a) r.parts t.0 p i));
+            let top = tops_under v r.parts f.falls p i in
+            part_positive a w l.laws l.approach p (omega (arith, top, l.speed)) (of_all (ReadsIn w) r.parts f.reads p i)
+            (each_proper (part_distance a) r.parts t.0 p i));
         proper = mul-pos d.0 t.0;
       },
       at_most (finer_distance k a v r) (part y 1 +F part c 1) (whole (pos (distance k a v))) (omega arith)

@@ -1,6 +1,8 @@
 -- Checked figures: known values of the definitions that the contracts cite.
-use Rattle.std.specs.Prelude.{◌≡◌, ℕ, pos, negsuc}
+use Rattle.std.specs.Prelude.{◌≡◌, ℕ, List, ℤ, pos, negsuc}
 use Rattle.rules.specs.declared.figures.SectionFigures.{SectionFigures}
+use Rattle.rules.specs.declared.figures.StopFigures.{StopFigures}
+use Rattle.rules.specs.Fraction.{Fraction, floor, times}
 use Rattle.rules.specs.Ratio.{Ratio, rounded_down, rounded_up}
 use Rattle.rules.specs.Law.{Falling}
 use Rattle.rules.specs.Formulas.{cast_iron, composite, adhesion, wagon_drag, df4}
@@ -8,7 +10,14 @@ use Rattle.rules.specs.Layers.{blend_down, blend_up}
 use Rattle.rules.specs.Book.{cut_out}
 use Rattle.rules.specs.Grade.{low_grade, high_grade}
 use Rattle.rules.specs.Refusals.{stops, refused}
-use Rattle.rules.specs.Sample.{example_book, example_stop}
+use Rattle.rules.specs.Kind.{freight}
+use Rattle.rules.specs.Stop.{Approach, approach_at, stop_window}
+use Rattle.rules.specs.Exact.{exact_sum}
+use Rattle.rules.specs.Finer.{finer_distance}
+use Rattle.rules.specs.Promises.{promised_surplus}
+use Rattle.rules.specs.Allowance.{allowance}
+use Rattle.rules.specs.Sample.{example_book, example_stock, example_stop}
+use Rattle.rules.specs.Examples.{stretch, example_approach, five_parts}
 
 -- x is rounded down to lo and up to hi
 abbrev pub RoundsTo : Ratio → ℕ → ℕ → Type 0
@@ -17,6 +26,20 @@ RoundsTo x lo hi = (rounded_down x ≡ lo) × (rounded_up x ≡ hi)
 -- 500 m, level, with a curve of 250 m and radius 300
 abbrev pub curved_section : SectionFigures
 curved_section = record { metres = 500; gradient = pos 0; curve = 250; radius = 300; stop = 0 }
+
+-- the example train on the level, its window, and the figures that it is answered at 10 km/h
+abbrev pub level_approach : Falling → Approach
+level_approach pull = approach_at (example_stock pull) (example_book (pos 0)) 0 10
+
+abbrev pub level_window : List SectionFigures
+level_window = stop_window (example_book (pos 0)) 0
+
+abbrev pub level_stop : StopFigures
+level_stop = record { distance = 24917; least = 74250; steps = 1 }
+
+-- a length in millimetres, in thousandths of them and rounded down
+abbrev pub micrometres : Fraction → ℤ
+micrometres x = floor (times 1000 x)
 
 -- the figures, each with its case
 pub record CheckedFigures : Type 0 where
@@ -36,3 +59,9 @@ pub record CheckedFigures : Type 0 where
   pub at_rest : (pull : Falling) → example_stop pull (example_book (pos 0)) 0 ≡ stops 0 101250 0
   pub one_cut_out : (pull : Falling) → example_stop pull (cut_out (example_book (negsuc 399)) 0) 100 ≡ refused 11
   pub both_cut_out : (pull : Falling) → example_stop pull (cut_out (cut_out (example_book (negsuc 399)) 0) 1) 100 ≡ refused 10
+  -- the stop on the level from 10 km/h reckoned exactly, its surplus and its allowance; and a finer reckoning of the stop from
+  -- 25 km/h on a fall before the level
+  pub exact_on_the_level : (pull : Falling) → micrometres (exact_sum freight (level_approach pull) level_window 100) ≡ pos 24915688
+  pub surplus_on_the_level : (pull : Falling) → micrometres (promised_surplus freight (level_approach pull) level_window 100 level_stop) ≡ pos 3677
+  pub allowance_on_the_level : allowance 5 level_stop ≡ 4
+  pub finer_on_a_fall : micrometres (finer_distance freight (example_approach (negsuc 99)) 250 (five_parts (stretch (negsuc 99)) (stretch (pos 0)))) ≡ pos 90194290

@@ -1,6 +1,6 @@
 ghost use Rattle.rules.specs.Figures.{CheckedFigures};
 ghost use Rattle.rules.specs.Finer.{StepsFall};
-ghost use Rattle.rules.specs.Examples.{StopsMeet};
+ghost use Rattle.rules.specs.Examples.{PromisesApply};
 ghost use Rattle.rules.specs.Promises.{ExactSumsAreFiner, StopsAreClose, StopsAreSafe};
 ghost use Rattle.rules.specs.Refusals.{QuestionsDecideOnce};
 ghost use Rattle.rules.specs.Stop.{EdgesAreCounted};
@@ -43,8 +43,8 @@ pub fn stops_are_close()
 {}
 
 /// There are stops to which the promises apply, each with a finer reckoning.
-pub fn stops_meet()
-    ensures { StopsMeet }
+pub fn promises_apply()
+    ensures { PromisesApply }
 {}
 
 /// Laws, layers, grades and stops have their known values.

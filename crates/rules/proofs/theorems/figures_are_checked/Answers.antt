@@ -21,4 +21,8 @@ returns c =
       at_rest = λ _. refl;
       one_cut_out = λ _. refl;
       both_cut_out = λ _. refl;
+      exact_on_the_level = λ _. refl;
+      surplus_on_the_level = λ _. refl;
+      allowance_on_the_level = refl;
+      finer_on_a_fall = refl;
     }
