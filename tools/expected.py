@@ -187,7 +187,7 @@ def outcome(f, *args):
     if not isinstance(r, tuple):
         return "passed"
     figures = f"{r[0]} mm, least force {r[1]}, steps {r[2]}"
-    return figures + "".join(f", at most {n} mm over the exact distance" for n in r[3:])
+    return figures + "".join(f", at most {n} mm over the exact sum" for n in r[3:])
 
 
 # ---- the program `inspection`

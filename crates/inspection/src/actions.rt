@@ -46,7 +46,7 @@ impl<'a> fmt::Display for Asked<'a> {
     }
 }
 
-/// Asks how far the train needs to stop, with a DF4 locomotive, and by how much at most the answer exceeds the exact distance.
+/// Asks how far the train needs to stop, with a DF4 locomotive, and by how much at most the answer exceeds the exact sum.
 pub fn ask<K: BrakeKind>(
     rt: &HostRuntime,
     sheet: &Sheet,

@@ -1,7 +1,6 @@
-ghost use Rattle.std.specs.Prelude.{◌≡◌, ℕ};
+ghost use Rattle.std.specs.Prelude.{◌≡◌, ℕ, Some};
 ghost use Rattle.rules.specs.Kind.{kind, LawfulKind};
 ghost use Rattle.laws.specs.Kinds.{kind_by_letter, letter_of};
-ghost use Rattle.std.specs.Prelude.{Some};
 ghost use Rattle.std.proofs.Common.{rules};
 
 use std::fmt;

@@ -1,5 +1,5 @@
 ghost use Rattle.std.specs.Prelude.{◌≡◌, ℕ, ◌*◌, ◌<◌, ◌≤◌, ◌++◌, Some, codes, decimal, MatchOption};
-ghost use Rattle.rules.specs.Allowance.{narrow};
+ghost use Rattle.rules.specs.Allowance.{as_u32};
 ghost use Rattle.rules.specs.Ratio.{Ratio, AtMost};
 ghost use Rattle.rules.specs.Law.{Reads};
 
@@ -87,9 +87,9 @@ pub trait Law {
         self.read(at).above
     }
 
-    /// How far apart the two whole values may be; none past 32 bits, which no pile of layers in a program reaches.
+    /// How far apart the two whole values may be; none where 32 bits do not hold it.
     fn slack(&self) -> Option<u32>
-        ensures { result ≡ narrow (slack self.now) };
+        ensures { result ≡ as_u32 (slack self.now) };
 
     ghost reads: { (l : Self) (x : Self.Place) → Self.Place.in_range x → Reads (exact l x) (low l x) (high l x) (slack l) };
 }

@@ -1,5 +1,5 @@
 ghost use Rattle.std.specs.Prelude.{◌≡◌};
-ghost use Rattle.rules.specs.Allowance.{narrow, combined_slack};
+ghost use Rattle.rules.specs.Allowance.{as_u32, combined_slack};
 ghost use Rattle.rules.specs.Law.{Falling, Drag, Stock as StockMeaning, LawfulFalling, LawfulDrag, LawfulStock, falling, stock};
 ghost use Rattle.laws.specs.Drags.{drag_by, running};
 
@@ -21,9 +21,9 @@ pub trait LocomotiveLaws {
     fn coasting_below(&self, at: Running) -> Milli
         ensures { result ≡ (coasting self.now).below at.speed at.gross };
 
-    /// The slack of its drag when it coasts, as far as 32 bits hold it.
+    /// The slack of its drag when it coasts; none where 32 bits do not hold it.
     fn coasting_slack(&self) -> Option<u32>
-        ensures { result ≡ narrow (coasting self.now).slack };
+        ensures { result ≡ as_u32 (coasting self.now).slack };
 
     ghost lawful: { (e : Self) → LawfulFalling (pull e) × LawfulDrag (pulling e) × LawfulDrag (coasting e) };
 }
@@ -79,10 +79,10 @@ pub trait StockLaws {
     fn wagon_below(&self, at: Running) -> Milli
         ensures { result ≡ (meaning self.now).wagon.below at.speed at.gross };
 
-    /// By how much in milli a force that holds a train of these laws back may fall short of the exact one, as far as 32 bits
-    /// hold it: the slack of friction, the greater slack of the two drags of a stop, and 3 for rounding.
+    /// By how much in milli a force that holds a train of these laws back may fall short of the exact one: the slack of friction,
+    /// the greater slack of coasting drag and wagon drag, and 3 for rounding; none where 32 bits do not hold it.
     fn combined_slack(&self) -> Option<u32>
-        ensures { result ≡ narrow (combined_slack (meaning self.now)) };
+        ensures { result ≡ as_u32 (combined_slack (meaning self.now)) };
 
     ghost lawful: { (s : Self) → LawfulStock (meaning s) };
 }

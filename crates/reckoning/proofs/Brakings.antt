@@ -2,6 +2,8 @@
 use Rattle.std.proofs.Common.{◌≡◌, ℕ, zero, suc, ◌+◌, ◌*◌, ◌≤◌, min, Bool, false, ◌&&◌, List, [], ◌∷◌, map, length, ℤ, pos, int_le, sym, refl, ap, ◌∙◌, arith}
 use borrow.Author.Differences.{up}
 use Rattle.reckoning.specs.declared.braking.Run.{Run}
+use Rattle.rules.proofs.Surplus.{least_base}
+use Rattle.reckoning.specs.Bounds.{step_limit}
 use Rattle.reckoning.specs.Brakings.{IsLonger, RunsThrough}
 use Rattle.rules.specs.Stop.{Step, edge, edges_below, steps_through, steps_from, all_hold, least_of, braking_run, braking_distance}
 
@@ -22,14 +24,10 @@ module _ (force : Step → ℤ) (b : ℕ) (all : List Step) where
     pub count : run.steps + length left ≡ length all
     pub few : length all ≤ 27
     pub sum : run.distance + braking_distance force left ≡ braking_distance force all
-    pub small : run.distance ≤ 106752000000 * run.steps
+    pub small : run.distance ≤ step_limit * run.steps
     pub lowest : min run.least (least_of b (forces left)) ≡ least_of b (forces all)
     pub under : run.least ≤ b
     pub holds : all_hold force left ≡ all_hold force all
-
-  least_under : (ns : List ℕ) → least_of b ns ≤ b
-  least_under [] = omega arith
-  least_under (n ∷ ns) = omega (arith, least_under ns)
 
   pub begins : (v : ℕ) → all ≡ steps_from v → v ≤ 1600 → Kept all (record { distance = 0; least = b; steps = 0 })
   begins v e h =
@@ -39,14 +37,14 @@ module _ (force : Step → ℤ) (b : ℕ) (all : List Step) where
         few = omega (arith, few_steps v h);
         sum = omega arith;
         small = omega arith;
-        lowest = omega (arith, least_under (forces all));
+        lowest = omega (arith, least_base b (forces all));
         under = omega arith;
         holds = refl;
       }
 
   -- one step s more
   module _ (old left : List Step) (s : Step) (run : Run) (is : old ≡ s ∷ left) (kept : Kept old run) where
-    pub room : (run.steps ≤ 26) × (run.distance ≤ 26 * 106752000000)
+    pub room : (run.steps ≤ 26) × (run.distance ≤ 26 * step_limit)
     room =
         let long : length old ≡ suc (length left) = ap length is in
         (omega (arith, kept.count, kept.few), omega (arith, kept.count, kept.few, kept.small))

@@ -7,6 +7,7 @@ use Rattle.rules.specs.Refusals.{number_of}
 use Rattle.rules.specs.Stop.{Approach as RuleApproach, Step, all_hold, steps_from, braking_run, braking_distance, least_of}
 use Rattle.reckoning.specs.declared.braking.Braking.{Braking}
 use Rattle.reckoning.specs.declared.braking.Run.{Run}
+use Rattle.reckoning.specs.Bounds.{step_limit}
 use Rattle.reckoning.specs.Approaches.{approach_of}
 
 abbrev pub train_of : {S : Type 0} → (S → Stock) → Braking S → RuleApproach
@@ -18,7 +19,7 @@ pub record IsLonger (force : Step → ℤ) (s : Step) (run more : Run) : Type 0 
   pub distance : more.distance ≡ run.distance + braking_run s (natural_of (force s))
   pub least : more.least ≡ min run.least (natural_of (force s))
   pub steps : more.steps ≡ run.steps + 1
-  pub small : more.distance ≤ run.distance + 106752000000
+  pub small : more.distance ≤ run.distance + step_limit
 
 -- one step more where its force holds the train, and else refused
 abbrev pub StepAdded : (Step → ℤ) → Step → Run → Result Run Refusal → Type 0
@@ -32,7 +33,7 @@ pub record RunsThrough (force : Step → ℤ) (b : ℕ) (all : List Step) (run :
   pub least : run.least ≡ least_of b (map (λ s. natural_of (force s)) all)
   pub steps : run.steps ≡ length all
   pub under : run.least ≤ b
-  pub small : run.distance ≤ 27 * 106752000000
+  pub small : run.distance ≤ 27 * step_limit
 
 -- all steps of a stop from v where every force holds the train, and else refused
 abbrev pub Braked : (Step → ℤ) → ℕ → ℕ → Result Run Refusal → Type 0

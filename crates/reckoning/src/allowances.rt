@@ -4,8 +4,8 @@ ghost use Rattle.std.specs.Prelude.{◌≡◌};
 use laws::StockLaws;
 use rules::StopFigures;
 
-/// By how much, in whole millimetres, the distance that a stop with the laws of a stock was answered may exceed the exact sum
-/// of its delay and its steps; none for figures without a force, which no answered stop has, and for a slack past 32 bits.
+/// By how much at most, in whole millimetres, the distance answered to a stop with the laws of a stock exceeds its exact sum;
+/// none for figures without a force, which no answered stop has, and where 32 bits do not hold the slack.
 pub fn allowance<S: StockLaws>(stock: &S, stop: StopFigures) -> Option<u64>
     ensures { result ≡ told_allowance (combined_slack (S.meaning stock.now)) stop }
 {

@@ -11,11 +11,12 @@ use sheet::Sheet;
 use train::Totals;
 use units::{Grade, Gross, Speed};
 
-/// What a stop reads of the sheet besides its speed: the factor in tenths of full braking, the masses of locomotives and
-/// wagons and the pressure of the brakes in tenths of a tonne, the gross mass per wagon, the braking distance in metres,
-/// and the lowest low grade of the sections that lie in it.
+// Not a model: its value would be the approach of the rules, which holds the laws, and a model's value may hold no functions.
+// What a stop reads of the sheet besides its speed: the factor in tenths of full braking, the masses of locomotives and
+// wagons and the pressure of the brakes in tenths of a tonne, the gross mass per wagon, the braking distance in metres,
+// and the lowest low grade of the sections that lie in it.
 #[derive(Clone, Copy)]
-pub struct Approach {
+pub(crate) struct Approach {
     pub(crate) factor: u32,
     pub(crate) hauling: u32,
     pub(crate) trailing: u32,
@@ -36,8 +37,8 @@ impl Approach {
     ghost use Rattle.rules.specs.Promises.{LawfulApproach};
     ghost use Rattle.rules.specs.Stop.{approach_at, stop_window};
 
-    /// The approach from a place of the sheet, in metres from the start of the line, by a factor in tenths of full braking.
-    pub fn of(sheet: &Sheet, place: u32, factor: u32) -> Result<Approach, Refusal>
+    // The approach from a place of the sheet, in metres from the start of the line, by a factor in tenths of full braking.
+    pub(crate) fn of(sheet: &Sheet, place: u32, factor: u32) -> Result<Approach, Refusal>
         ensures value { Approached sheet.now place factor result }
         ensures lawful { IfOk result (λ _. (s : Stock) → LawfulApproach (approach_at s sheet.now place factor) (stop_window sheet.now place)) }
     {
@@ -63,9 +64,8 @@ impl Approach {
         })
     }
 
-    // Not a model: its value would be the approach of the rules, which holds the laws, and a model's value may hold no functions.
-    /// How the train stops from a speed, by a kind of brake and a stock.
-    pub fn stop<K: BrakeKind, S: StockLaws>(
+    // How the train stops from a speed, by a kind of brake and a stock.
+    pub(crate) fn stop<K: BrakeKind, S: StockLaws>(
         &self,
         stock: &S,
         v: Speed,

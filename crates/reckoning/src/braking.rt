@@ -1,5 +1,6 @@
 ghost use Rattle.std.specs.Prelude.{◌≡◌, ◌+◌, ◌*◌, ◌^◌, ◌≤◌, min};
 ghost use Rattle.rules.specs.Kind.{kind};
+ghost use Rattle.reckoning.specs.Bounds.{step_limit};
 ghost use Rattle.rules.specs.Stop.{brake_force, drag_in, train_drag, holding_force, delay_run, braking_run};
 
 use crate::approach::Approach;
@@ -96,7 +97,7 @@ impl<'a, S: StockLaws> Braking<'a, S> {
 
     // The run with one step more; refused where the train is not held in it.
     fn with_step(&self, run: Run, step: Step) -> Result<Run, Refusal>
-        requires few { run.distance ≤ 26 * 106752000000 }
+        requires small { run.distance ≤ 26 * step_limit }
         requires steps { run.steps ≤ 26 }
         ensures { StepAdded (holding_force (train_of S.meaning self.now)) step run result }
     {
@@ -141,10 +142,10 @@ impl Run {
     // With one step more, under a force in milli.
     fn with(self, step: Step, force: u64) -> Run
         requires force { 1 ≤ force }
-        requires few { self.distance ≤ 26 * 106752000000 }
+        requires small { self.distance ≤ 26 * step_limit }
         requires steps { self.steps ≤ 26 }
         ensures distance { result.distance ≡ self.distance + braking_run step force }
-        ensures small { result.distance ≤ self.distance + 106752000000 }
+        ensures small { result.distance ≤ self.distance + step_limit }
         ensures least { result.least ≡ min self.least force }
         ensures steps { result.steps ≡ self.steps + 1 }
     {

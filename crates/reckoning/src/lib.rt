@@ -1,8 +1,9 @@
-// The questions that are asked of a sheet, over any kind of brake and any stock, and what their answers allow for.
+// The questions that are asked of a sheet, over any kind of brake and any stock, and by how much an answer may exceed the exact
+// sum.
 #![tactic(auto)]
 
 pub mod allowances;
-pub mod approach;
+mod approach;
 mod braking;
 mod edges;
 pub mod questions;
@@ -10,5 +11,4 @@ mod step;
 mod steps;
 
 pub use allowances::allowance;
-pub use approach::Approach;
 pub use questions::stop;

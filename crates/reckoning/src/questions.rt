@@ -10,7 +10,8 @@ use rules::{Refusal, StopFigures, StopQuestion};
 use sheet::Sheet;
 use units::Speed;
 
-/// How far the train of a sheet needs to stop, with the kind of brake K and the laws of a stock.
+/// How far the train of a sheet needs to stop, with the kind of brake K and the laws of a stock. No finer reckoning is longer
+/// than the distance answered, which exceeds its exact sum by no more than the surplus promised.
 pub fn stop<K: BrakeKind, S: StockLaws>(
     sheet: &Sheet,
     stock: &S,

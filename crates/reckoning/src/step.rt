@@ -1,4 +1,5 @@
 ghost use Rattle.std.specs.Prelude.{◌≡◌, ◌≤◌};
+ghost use Rattle.reckoning.specs.Bounds.{step_limit};
 ghost use Rattle.rules.specs.Stop.{step, braking_run};
 
 use std::marker::Model;
@@ -52,7 +53,7 @@ impl Step {
     pub(crate) fn run(self, force: u64) -> u64
         requires { 1 ≤ force }
         ensures value { result ≡ braking_run self force }
-        ensures small { result ≤ 106752000000 }
+        ensures small { result ≤ step_limit }
     {
         let top = u64::from(self.top.tenths());
         let bottom = u64::from(self.bottom.tenths());

@@ -10,4 +10,4 @@ outcome_text answer (Err e) = Some (refusal_text e)
 -- behind the figures of a stop, where it is told
 abbrev pub allowance_text : Option ℕ → List ℕ
 allowance_text None = []
-allowance_text (Some n) = codes ", at most " ++ (decimal n ++ codes " mm over the exact distance")
+allowance_text (Some n) = codes ", at most " ++ (decimal n ++ codes " mm over the exact sum")

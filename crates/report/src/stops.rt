@@ -8,7 +8,7 @@ use reckoning::allowance;
 use rules::StopFigures;
 use std::fmt;
 
-/// The figures of an answered stop, and by how many millimetres at most its distance exceeds the exact one, where that is told.
+/// The figures of an answered stop, and by how many millimetres at most its distance exceeds its exact sum, where that is told.
 #[derive(Clone, Copy, PartialEq, Eq, Debug)]
 pub struct StopWithAllowance {
     figures: StopFigures,
@@ -16,7 +16,7 @@ pub struct StopWithAllowance {
 }
 
 impl StopWithAllowance {
-    /// The figures of a stop with the laws of a stock, and what these allow for.
+    /// The figures of a stop that was answered with the laws of a stock, and their allowance.
     pub fn of<S: StockLaws>(stock: &S, figures: StopFigures) -> StopWithAllowance
         ensures figures { result.figures ≡ figures }
         ensures allowance { result.allowance ≡ told_allowance (combined_slack (S.meaning stock.now)) figures }
@@ -35,7 +35,7 @@ impl fmt::Display for StopWithAllowance {
         match self.allowance {
             Some(millimetres) => write!(
                 f,
-                "{}, at most {millimetres} mm over the exact distance",
+                "{}, at most {millimetres} mm over the exact sum",
                 self.figures
             ),
             None => write!(f, "{}", self.figures),

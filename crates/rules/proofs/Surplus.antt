@@ -57,7 +57,7 @@ positive_down (negsuc n) h = absurd (omega arith)
 
 -- ---- the least force
 
-least_base : (b : ℕ) (ns : List ℕ) → least_of b ns ≤ b
+pub least_base : (b : ℕ) (ns : List ℕ) → least_of b ns ≤ b
 least_base b [] = omega arith
 least_base b (n ∷ ns) = omega (arith, least_base b ns)
 

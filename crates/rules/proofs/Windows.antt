@@ -18,16 +18,16 @@ passed : (b : Bool) (x : Located) (xs : List Located) → 1 ≤ length (map (λ 
 passed true x xs h = omega arith
 passed false x xs h = h
 
-both : (a b : Bool) → a ≡ true → b ≡ true → (a && b) ≡ true
-both true true h k = refl
-both true false h k = k
-both false b h k = h
+both_true : (a b : Bool) → a ≡ true → b ≡ true → (a && b) ≡ true
+both_true true true h k = refl
+both_true true false h k = k
+both_true false b h k = h
 
 some_from : (from to start : ℕ) (fs : List SectionFigures) → from ≤ to → start ≤ from → from < start + line_length fs → 1 ≤ length (window_from start from to fs)
 some_from from to start [] h k r = absurd (omega arith)
 some_from from to start (f ∷ fs) h k r =
     elim (dec_le from (start + f.metres)) [
-      | yes p ↦ taken _ _ _ (both _ _ (le-leb start to (omega arith)) (le-leb from (start + f.metres) p))
+      | yes p ↦ taken _ _ _ (both_true _ _ (le-leb start to (omega arith)) (le-leb from (start + f.metres) p))
       | no n ↦ passed _ _ _ (some_from from to (start + f.metres) fs h (omega arith) (omega arith))
     ]
 

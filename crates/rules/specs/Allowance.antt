@@ -1,11 +1,11 @@
--- By how much the distance of a stop, made of whole values, may exceed the exact sum of its delay and its steps.
+-- By how much the distance of a stop, made of whole values, may exceed its exact sum.
 use Rattle.std.specs.Prelude.{ℕ, ◌+◌, ◌*◌, ◌^◌, max, Some, None, Option, ◌==◌, cond, nat_lt}
 use Rattle.rules.specs.declared.figures.StopFigures.{StopFigures}
 use Rattle.rules.specs.Law.{Stock}
 use Rattle.rules.specs.Ratio.{ratio, rounded_up}
 
--- e, by how much in milli a holding force may fall short of the exact one: the slack of friction, the greater one of the
--- slacks of the two drags of a stop, and 1 each for rounding B and D and for the grade
+-- e, by how much in milli a holding force may fall short of the exact one: the slack of friction, the greater slack of coasting
+-- drag and wagon drag, and 1 each for rounding B, D and the grade
 abbrev pub combined_slack : Stock → ℕ
 combined_slack s = s.friction.slack + max s.coasting.slack s.wagon.slack + 3
 
@@ -15,9 +15,9 @@ allowance e s = s.steps + 1 + rounded_up (ratio (e * s.distance) s.least)
 
 -- ---- as it is told where a program runs
 
--- a number as far as 32 bits hold it
-abbrev pub narrow : ℕ → Option ℕ
-narrow n = cond (nat_lt n (2 ^ 32)) (Some n) None
+-- a number, where 32 bits hold it
+abbrev pub as_u32 : ℕ → Option ℕ
+as_u32 n = cond (nat_lt n (2 ^ 32)) (Some n) None
 
 -- the allowance by a slack that 32 bits hold, of a stop that has a force
 abbrev pub told_allowance : ℕ → StopFigures → Option ℕ
