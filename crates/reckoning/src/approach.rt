@@ -11,10 +11,11 @@ use sheet::Sheet;
 use train::Totals;
 use units::{Grade, Gross, Speed};
 
-// Not a model: its value would be the approach of the rules, which holds the laws, and a model's value may hold no functions.
 // What a stop reads of the sheet besides its speed: the factor in tenths of full braking, the masses of locomotives and
 // wagons and the pressure of the brakes in tenths of a tonne, the gross mass per wagon, the braking distance in metres,
 // and the lowest low grade of the sections that lie in it.
+//
+// Not a model: its value would be the approach of the rules, which holds the laws, and a model's value may hold no functions.
 #[derive(Clone, Copy)]
 pub(crate) struct Approach {
     pub(crate) factor: u32,

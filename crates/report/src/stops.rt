@@ -11,8 +11,8 @@ use std::fmt;
 /// The figures of an answered stop, and by how many millimetres at most its distance exceeds its exact sum, where that is told.
 #[derive(Clone, Copy, PartialEq, Eq, Debug)]
 pub struct StopWithAllowance {
-    figures: StopFigures,
-    allowance: Option<u64>,
+    pub figures: StopFigures,
+    pub allowance: Option<u64>,
 }
 
 impl StopWithAllowance {
