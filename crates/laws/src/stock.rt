@@ -4,9 +4,9 @@ ghost use Rattle.rules.specs.Law.{Falling, Drag, Stock as StockMeaning, LawfulFa
 ghost use Rattle.laws.specs.Drags.{drag_by, running};
 
 use crate::law::{DragLaw, FallingLaw, Running};
-use units::{Friction, KilogramsForce, Milli, Millionths, Speed};
+use units::{Friction, Kgf, KilogramsForce, Milli, Millionths, Speed};
 
-// A stock takes whatever states the laws of a locomotive, and passes its coasting drag on; over the three laws of a `Locomotive`
+// A stock takes whatever states the laws of a locomotive, and passes its pull and its drags on; over the three laws of a `Locomotive`
 // alone it would ask that type of a caller.
 
 /// Whatever states the laws of one locomotive.
@@ -16,6 +16,14 @@ pub trait LocomotiveLaws {
     ghost pulling: { Self → Drag };
 
     ghost coasting: { Self → Drag };
+
+    /// The value below its pull at a speed.
+    fn pull_below(&self, v: Speed) -> Kgf
+        ensures { result ≡ (pull self.now).below v };
+
+    /// The value above its drag when it pulls.
+    fn pulling_above(&self, at: Running) -> Milli
+        ensures { result ≡ (pulling self.now).above at.speed at.gross };
 
     /// The value below its drag when it coasts.
     fn coasting_below(&self, at: Running) -> Milli
@@ -54,6 +62,14 @@ where
       record { reads = λ v q h low high. C.reads e.coasting (running v q) (h, low, high); rises = C.rises e.coasting },
     ) };
 
+    fn pull_below(&self, v: Speed) -> Kgf {
+        self.pull.below(v)
+    }
+
+    fn pulling_above(&self, at: Running) -> Milli {
+        self.pulling.above(at)
+    }
+
     fn coasting_below(&self, at: Running) -> Milli {
         self.coasting.below(at)
     }
@@ -71,6 +87,14 @@ pub trait StockLaws {
     fn friction_below(&self, v: Speed) -> Friction
         ensures { result ≡ (meaning self.now).friction.below v };
 
+    /// The value below the pull of one locomotive at a speed.
+    fn pull_below(&self, v: Speed) -> Kgf
+        ensures { result ≡ (meaning self.now).pull.below v };
+
+    /// The value above the drag of a locomotive that pulls.
+    fn pulling_above(&self, at: Running) -> Milli
+        ensures { result ≡ (meaning self.now).pulling.above at.speed at.gross };
+
     /// The value below the drag of a coasting locomotive.
     fn coasting_below(&self, at: Running) -> Milli
         ensures { result ≡ (meaning self.now).coasting.below at.speed at.gross };
@@ -78,6 +102,10 @@ pub trait StockLaws {
     /// The value below the drag of the wagons.
     fn wagon_below(&self, at: Running) -> Milli
         ensures { result ≡ (meaning self.now).wagon.below at.speed at.gross };
+
+    /// The value above the drag of the wagons.
+    fn wagon_above(&self, at: Running) -> Milli
+        ensures { result ≡ (meaning self.now).wagon.above at.speed at.gross };
 
     /// By how much in milli a force that holds a train of these laws back may fall short of the exact one: the slack of friction,
     /// the greater slack of coasting drag and wagon drag, and 3 for rounding; none where 32 bits do not hold it.
@@ -122,12 +150,24 @@ where
         self.friction.below(v)
     }
 
+    fn pull_below(&self, v: Speed) -> Kgf {
+        self.locomotive.pull_below(v)
+    }
+
+    fn pulling_above(&self, at: Running) -> Milli {
+        self.locomotive.pulling_above(at)
+    }
+
     fn coasting_below(&self, at: Running) -> Milli {
         self.locomotive.coasting_below(at)
     }
 
     fn wagon_below(&self, at: Running) -> Milli {
         self.wagon.below(at)
+    }
+
+    fn wagon_above(&self, at: Running) -> Milli {
+        self.wagon.above(at)
     }
 
     fn combined_slack(&self) -> Option<u32> {

@@ -2,7 +2,7 @@ ghost use Rattle.rules.specs.Grade.{low_grade, high_grade};
 ghost use Rattle.rules.specs.Questions.{lawful_section};
 ghost use Rattle.rules.specs.Ratio.{rounded_down, rounded_up};
 ghost use Rattle.std.specs.Int.{int_max};
-ghost use Rattle.std.specs.Prelude.{◌≡◌, ◌≤◌, ◌&&◌, nat_le, int_le, pos, negsuc, ◌*ℤ◌, ◌+ℤ◌, IsTrue};
+ghost use Rattle.std.specs.Prelude.{◌≡◌, ◌≤◌, ◌&&◌, not, ◌==◌, nat_le, int_le, pos, negsuc, ◌*ℤ◌, ◌+ℤ◌, IsTrue};
 
 use crate::curve::Curve;
 use rules::{Refusal, SectionFigures};
@@ -82,6 +82,13 @@ impl Section {
         ensures most { result ≤ 20000 }
     {
         self.metres
+    }
+
+    /// Whether there is a stop.
+    pub fn is_stop(&self) -> bool
+        ensures { result ≡ not (self.now.stop == 0) }
+    {
+        self.stop
     }
 
     /// The grade, its fraction of a milli rounded down.

@@ -17,6 +17,9 @@ pub struct Sheet {
     distance: u32,
 }
 
+// The braking distance of a new sheet, in metres.
+const NEW_DISTANCE: u32 = 1000;
+
 impl Model for Sheet {
     ghost Value = { Book };
 
@@ -35,8 +38,17 @@ impl Sheet {
         Ok(Sheet {
             consist,
             line,
-            distance: 1000,
+            distance: NEW_DISTANCE,
         })
+    }
+
+    /// Empties the sheet, so that it is as a new one.
+    pub fn clear(&mut self)
+        ensures { self.new ≡ new_book }
+    {
+        self.consist.clear();
+        self.lift();
+        self.distance = NEW_DISTANCE;
     }
 
     /// Couples a vehicle at the rear, its brake in.

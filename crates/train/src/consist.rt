@@ -82,6 +82,13 @@ impl Consist {
         Ok(())
     }
 
+    /// Uncouples all vehicles.
+    pub fn clear(&mut self)
+        ensures { self.new ≡ [] }
+    {
+        self.vehicles.clear();
+    }
+
     /// Puts the brake of vehicle k in or cuts it out, whatever it was before, and of no other vehicle.
     #[tactic(auto, using(crate::proofs::Trains::set_brake_at))]
     pub fn set_brake(&mut self, k: usize, on: bool) -> Result<(), Refusal>

@@ -1,6 +1,6 @@
 ghost use Rattle.std.specs.Prelude.{◌≡◌, pos, ◌+ℤ◌, Some};
 ghost use Rattle.std.specs.Fmt.{signed_decimal};
-ghost use Rattle.rules.specs.Fraction.{fall_of};
+ghost use Rattle.rules.specs.Fraction.{fall_of, natural_of};
 ghost use Rattle.std.specs.Int.{int_min};
 
 use crate::amount::Milli;
@@ -52,6 +52,13 @@ impl Grade {
         ensures { result ≡ fall_of self }
     {
         Milli::new(self.milli.min(0).unsigned_abs())
+    }
+
+    /// How steep a rise is; 0 on the level and on a fall.
+    pub fn rise(self) -> Milli
+        ensures { result ≡ natural_of self }
+    {
+        Milli::new(self.milli.max(0).unsigned_abs())
     }
 
     /// The force that holds a train back on this grade under a brake force and a drag, in milli. It is negative where the

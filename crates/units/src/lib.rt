@@ -11,4 +11,4 @@ pub use amount::{Amount, Friction, Kgf, KilogramsForce, Milli, MilliPerTonne, Mi
 pub use braking::BrakeRatio;
 pub use exact::ExactValue;
 pub use grade::Grade;
-pub use tenths::{Gross, KilometresPerHour, Speed, Tenths, Tonnes};
+pub use tenths::{Gross, KilometresPerHour, Load, Speed, Tenths, Tonnes};

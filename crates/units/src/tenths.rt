@@ -24,6 +24,9 @@ pub type Speed = Tenths<KilometresPerHour, 0, 1600>;
 /// A gross mass per wagon in tenths of a tonne, 5 to 200 t.
 pub type Gross = Tenths<Tonnes, 50, 2000>;
 
+/// A mass of wagons that is hauled, in tenths of a tonne, 50 to 10,000 t.
+pub type Load = Tenths<Tonnes, 500, 100_000>;
+
 impl<U, const LEAST: u32, const MOST: u32> Model for Tenths<U, LEAST, MOST> {
     ghost use Rattle.std.specs.Prelude.{ℕ, ◌≤◌};
 
