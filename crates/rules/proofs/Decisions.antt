@@ -1,9 +1,8 @@
 -- Numbered questions decide once.
-use Rattle.std.proofs.Common.{◌≡◌, ℕ, inl, inr, Bool, true, false, cond, List, [], ◌∷◌, Some, None, Option, Result, Ok, Err, sym, refl, ap, ◌∙◌, true≢false, arith}
+use Rattle.std.proofs.Common.{◌≡◌, ℕ, inl, inr, Bool, true, false, cond, List, [], ◌∷◌, Some, None, Option, Result, Ok, Err, sym, refl, ap, ◌∙◌, true≢false}
 use Rattle.std.proofs.lemmas.List.Elements.{All-nil, All-cons}
-use Rattle.rules.specs.declared.figures.StopFigures.{StopFigures}
 use Rattle.rules.specs.declared.refusal.Refusal.{Refusal}
-use Rattle.rules.specs.Refusals.{Question, first_no, DecidedOnce, QuestionsDecideOnce, Reply, decide, stop_reply, stops, refused, told}
+use Rattle.rules.specs.Refusals.{Question, first_no, DecidedOnce, QuestionsDecideOnce, Reply, decide, reply_of, stops, runs, hauls, refused, told}
 
 pub decided_once : QuestionsDecideOnce
 decided_once [] = (All-nil (λ q. q.holds ≡ true), λ n i. i)
@@ -17,41 +16,54 @@ decided_once (q ∷ qs) = by_first q.holds q qs refl (first_no qs) (decided_once
     by_first false q qs e o d =
         (inl (e, refl), λ n r. elim r [ inl here ↦ sym here.1 | inr later ↦ absurd (true≢false (sym later.0 ∙ e)) ])
 
--- ---- the result of a stop question, by its reply
+-- ---- a result, by its reply
+
+-- the number in a reply, where it is a refusal
+abbrev pub number_in : Reply → Option ℕ
+number_in (refused e) = Some e
+number_in _ = None
+
+number_decided : (o : Option ℕ) (due : Reply) → number_in due ≡ None → number_in (decide o due) ≡ o
+number_decided None due h = h
+number_decided (Some n) due h = refl
+
+module _ {X : Type 0} (answer : X → Reply) (answers : (x : X) → number_in (answer x) ≡ None) (o : Option ℕ) (due : Reply) (is_due : number_in due ≡ None) where
+  number_told : (r : Result X Refusal) → number_in (reply_of answer r) ≡ told r
+  number_told (Ok x) = answers x
+  number_told (Err e) = refl
+
+  -- the number told is the one that decides
+  pub told_decides : (r : Result X Refusal) → reply_of answer r ≡ decide o due → told r ≡ o
+  told_decides r e = sym (number_told r) ∙ ap number_in e ∙ number_decided o due is_due
+
+  -- an answer is the one that is due where no question refuses
+  pub answer_due : (x : X) → answer x ≡ decide o due → (o ≡ None) × (answer x ≡ due)
+  answer_due x e = let none : o ≡ None = sym (told_decides (Ok x) e) in (none, e ∙ ap (λ (t : Option ℕ). decide t due) none)
+
+-- ---- the figures in a reply
 
 abbrev distance_in : Reply → ℕ
 distance_in (stops d m n) = d
-distance_in (refused e) = 0
+distance_in _ = 0
 
 abbrev least_in : Reply → ℕ
 least_in (stops d m n) = m
-least_in (refused e) = 0
+least_in _ = 0
 
 abbrev steps_in : Reply → ℕ
 steps_in (stops d m n) = n
-steps_in (refused e) = 0
+steps_in _ = 0
 
-abbrev number_in : Reply → Option ℕ
-number_in (stops d m n) = None
-number_in (refused e) = Some e
+abbrev figure_in : Reply → ℕ
+figure_in (runs v) = v
+figure_in (hauls x) = x
+figure_in _ = 0
 
-number_decided : (o : Option ℕ) (s : StopFigures) → number_in (decide o (stops s.distance s.least s.steps)) ≡ o
-number_decided None s = refl
-number_decided (Some n) s = refl
+pub same_stop : (t : ℕ × ℕ × ℕ) (d m n : ℕ) → stops t.0 t.1 t.2 ≡ stops d m n → (t.0 ≡ d) × (t.1 ≡ m) × (t.2 ≡ n)
+same_stop t d m n e = (ap distance_in e, ap least_in e, ap steps_in e)
 
-number_told : (r : Result StopFigures Refusal) → number_in (stop_reply r) ≡ told r
-number_told (Ok s) = refl
-number_told (Err e) = refl
+pub same_speed : (v w : ℕ) → runs v ≡ runs w → v ≡ w
+same_speed v w e = ap figure_in e
 
--- the number told is the one that decides
-pub told_decides : (o : Option ℕ) (s : StopFigures) (r : Result StopFigures Refusal) → stop_reply r ≡ decide o (stops s.distance s.least s.steps) → told r ≡ o
-told_decides o s r e = sym (number_told r) ∙ ap number_in e ∙ number_decided o s
-
--- and the figures of an answer are those of the stop
-pub same_figures : (o : Option ℕ) (s t : StopFigures) → stop_reply (Ok t) ≡ decide o (stops s.distance s.least s.steps) → (o ≡ None) × (t ≡ s)
-same_figures None s t e = (refl, fields t.distance s.distance t.least s.least t.steps s.steps (ap distance_in e) (ap least_in e) (ap steps_in e))
-  where
-    fields : (d d' m m' n n' : ℕ) → d ≡ d' → m ≡ m' → n ≡ n'
-        → ◌≡◌ {A = StopFigures} (record { distance = d; least = m; steps = n }) (record { distance = d'; least = m'; steps = n' })
-    fields d d' m m' n n' e f g = rw (e, f, g) refl
-same_figures (Some n) s t e = absurd (let z : ◌≡◌ {A = ℕ} 0 1 = cc in omega arith)
+pub same_mass : (x y : ℕ) → hauls x ≡ hauls y → x ≡ y
+same_mass x y e = ap figure_in e

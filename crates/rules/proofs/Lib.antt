@@ -9,6 +9,7 @@ pub mod Fractions
 pub mod Members
 pub mod Asked
 pub mod Decisions
+pub mod Histories
 pub mod Windows
 pub mod Grades
 pub mod Forces
@@ -18,6 +19,9 @@ pub mod Steps
 pub mod Exacts
 pub mod Nearness
 pub mod Surplus
+pub mod Balances
+pub mod Masses
 pub mod Promised
+pub mod Speeds
 pub mod Examples
 pub mod Tables

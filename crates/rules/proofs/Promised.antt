@@ -1,18 +1,17 @@
 -- The answer to a stop question keeps its promises.
-use Rattle.std.proofs.Common.{◌≡◌, ℕ, ◌+◌, ◌≤◌, ◌&&◌, leb, List, None, Result, Ok, Err, IfOk, IsTrue, sym, refl, subst, arith}
+use Rattle.std.proofs.Common.{◌≡◌, ℕ, ◌+◌, ◌≤◌, ◌&&◌, leb, List, length, None, Result, Ok, Err, IfOk, IsTrue, sym, refl, subst, arith}
 use Rattle.std.proofs.lemmas.Bool.{leb-true}
-use Rattle.rules.specs.declared.figures.StopFigures.{StopFigures}
 use Rattle.rules.specs.declared.figures.StopQuestion.{StopQuestion}
 use Rattle.rules.specs.declared.refusal.Refusal.{Refusal}
 use Rattle.rules.specs.Book.{Book, locomotives, hauling_mass, trailing_mass, brake_pressure, mass_per_wagon, line_length}
 use Rattle.rules.specs.Kind.{Kind, LawfulKind}
 use Rattle.rules.specs.Law.{Stock, LawfulStock}
-use Rattle.rules.specs.Questions.{figures_of, lawful_section, LawfulSections, place_in_range, reaches, stop_questions, asked_to_stop}
-use Rattle.rules.specs.Refusals.{Question, first_no, DecidedOnce, stop_reply, told}
-use Rattle.rules.specs.Stop.{Approach, approach_at, stop_window}
+use Rattle.rules.specs.Questions.{figures, lawful_section, LawfulSections, place_in_range, reaches, stop_questions, stop_figures, asked_to_stop}
+use Rattle.rules.specs.Refusals.{Question, stops, first_no, DecidedOnce, stop_reply, told}
+use Rattle.rules.specs.Stop.{Approach, approach_at, stop_window, steps_from, distance, least_force}
 use Rattle.rules.specs.Promises.{LawfulApproach, LawfulStop, Answered, NoFinerIsLonger, SurplusIsBounded}
 use Rattle.rules.proofs.Asked.{both, holds}
-use Rattle.rules.proofs.Decisions.{decided_once, told_decides, same_figures}
+use Rattle.rules.proofs.Decisions.{decided_once, told_decides, answer_due, same_stop}
 use Rattle.rules.proofs.Windows.{some_section, all_in_window}
 use Rattle.rules.proofs.Safe.{stops_are_safe}
 use Rattle.rules.proofs.Surplus.{stops_are_close}
@@ -35,36 +34,33 @@ lawful_approach s b place factor few heavy pressed light laden some reached lawf
       lowest = refl;
     }
 
-module _ (k : Kind) (s : Stock) (b : Book) (q : StopQuestion) (r : Result StopFigures Refusal)
-    (reply : stop_reply r ≡ asked_to_stop k s b q.place q.speed q.factor) where
-  abbrev approach : Approach
-  approach = approach_at s b q.place q.factor
+module _ (k : Kind) (s : Stock) (b : Book) (q : StopQuestion) where
+  abbrev a : Approach
+  a = approach_at s b q.place q.factor
 
   abbrev questions : List Question
   questions = stop_questions k s b q.place q.speed q.factor
 
-  pub decides : DecidedOnce questions (told r)
-  decides = subst (DecidedOnce questions) (sym (told_decides (first_no questions) (figures_of k approach q.speed) r reply)) (decided_once questions)
+  pub decides : (r : Result (ℕ × ℕ × ℕ) Refusal) → stop_reply r ≡ asked_to_stop k s b q.place q.speed q.factor → DecidedOnce questions (told r)
+  decides r reply =
+      subst (DecidedOnce questions) (sym (told_decides (λ t. stops t.0 t.1 t.2) (λ t. refl) (first_no questions) (stop_figures k a q.speed) refl r reply)) (decided_once questions)
 
-module _ (k : Kind) (s : Stock) (b : Book) (q : StopQuestion) (lk : LawfulKind k) (ls : LawfulStock s)
-    (la : LawfulApproach (approach_at s b q.place q.factor) (stop_window b q.place)) where
-  abbrev a : Approach
-  a = approach_at s b q.place q.factor
+  module _ (lk : LawfulKind k) (ls : LawfulStock s) (la : LawfulApproach a (stop_window b q.place)) where
+    none : first_no questions ≡ None → LawfulStop k a (stop_window b q.place) q.speed × Answered k a q.speed
+    none e =
+        let seven = holds (leb q.speed 1600 && place_in_range q.place q.factor) 7 _ e in
+        let eight = holds (leb 1 (locomotives b.vehicles)) 8 _ seven.1 in
+        let nine = holds (reaches b q.place) 9 _ eight.1 in
+        let slow = leb-true q.speed 1600 (both (leb q.speed 1600) (place_in_range q.place q.factor) seven.0).0 in
+        (record { kind = lk; laws = ls; approach = la; speed = slow }, nine.1)
 
-  none : first_no (stop_questions k s b q.place q.speed q.factor) ≡ None → LawfulStop k a (stop_window b q.place) q.speed × Answered k a q.speed
-  none e =
-      let seven = holds (leb q.speed 1600 && place_in_range q.place q.factor) 7 _ e in
-      let eight = holds (leb 1 (locomotives b.vehicles)) 8 _ seven.1 in
-      let nine = holds (reaches b q.place) 9 _ eight.1 in
-      let slow = leb-true q.speed 1600 (both (leb q.speed 1600) (place_in_range q.place q.factor) seven.0).0 in
-      (record { kind = lk; laws = ls; approach = la; speed = slow }, nine.1)
-
-  pub promised : (r : Result StopFigures Refusal) → stop_reply r ≡ asked_to_stop k s b q.place q.speed q.factor
-      → IfOk r (NoFinerIsLonger k s b q) × IfOk r (SurplusIsBounded k s b q)
-  promised (Err e) reply = (tt, tt)
-  promised (Ok t) reply =
-      let is = same_figures (first_no (stop_questions k s b q.place q.speed q.factor)) (figures_of k a q.speed) t reply in
-      let n = none is.0 in (
-        subst (NoFinerIsLonger k s b q) (sym is.1) (stops_are_safe k a (stop_window b q.place) q.speed n.0 n.1),
-        subst (SurplusIsBounded k s b q) (sym is.1) (stops_are_close k a (stop_window b q.place) q.speed n.0 n.1),
-      )
+    pub promised : (r : Result (ℕ × ℕ × ℕ) Refusal) → stop_reply r ≡ asked_to_stop k s b q.place q.speed q.factor
+        → IfOk r (λ t. NoFinerIsLonger k s b q (figures t)) × IfOk r (λ t. SurplusIsBounded k s b q (figures t))
+    promised (Err e) reply = (tt, tt)
+    promised (Ok t) reply =
+        let due = answer_due (λ t. stops t.0 t.1 t.2) (λ t. refl) (first_no questions) (stop_figures k a q.speed) refl t reply in
+        let is = same_stop t (distance k a q.speed) (least_force a q.speed) (length (steps_from q.speed)) due.1 in
+        let n = none due.0 in (
+          rw is.0 (stops_are_safe k a (stop_window b q.place) q.speed n.0 n.1),
+          rw (is.0, is.1, is.2) (stops_are_close k a (stop_window b q.place) q.speed n.0 n.1),
+        )

@@ -18,7 +18,7 @@ passed : (b : Bool) (x : Located) (xs : List Located) → 1 ≤ length (map (λ 
 passed true x xs h = omega arith
 passed false x xs h = h
 
-both_true : (a b : Bool) → a ≡ true → b ≡ true → (a && b) ≡ true
+pub both_true : (a b : Bool) → a ≡ true → b ≡ true → (a && b) ≡ true
 both_true true true h k = refl
 both_true true false h k = k
 both_true false b h k = h

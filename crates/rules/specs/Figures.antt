@@ -1,5 +1,5 @@
 -- Checked figures: known values of the definitions that the contracts cite.
-use Rattle.std.specs.Prelude.{◌≡◌, ℕ, List, ℤ, pos, negsuc}
+use Rattle.std.specs.Prelude.{◌≡◌, ℕ, List, [], ◌∷◌, ℤ, pos, negsuc}
 use Rattle.rules.specs.declared.figures.SectionFigures.{SectionFigures}
 use Rattle.rules.specs.declared.figures.StopFigures.{StopFigures}
 use Rattle.rules.specs.Fraction.{Fraction, floor, times}
@@ -9,14 +9,15 @@ use Rattle.rules.specs.Formulas.{cast_iron, composite, adhesion, wagon_drag, df4
 use Rattle.rules.specs.Layers.{blend_down, blend_up}
 use Rattle.rules.specs.Book.{cut_out}
 use Rattle.rules.specs.Grade.{low_grade, high_grade}
-use Rattle.rules.specs.Refusals.{stops, refused}
+use Rattle.rules.specs.Refusals.{stops, hauls, refused}
 use Rattle.rules.specs.Kind.{freight}
 use Rattle.rules.specs.Stop.{Approach, approach_at, stop_window}
 use Rattle.rules.specs.Exact.{exact_sum}
 use Rattle.rules.specs.Finer.{finer_distance}
 use Rattle.rules.specs.Promises.{promised_surplus}
 use Rattle.rules.specs.Allowance.{allowance}
-use Rattle.rules.specs.Sample.{example_book, example_stock, example_stop}
+use Rattle.rules.specs.Given.{straight_section}
+use Rattle.rules.specs.Sample.{long_section, example_book, full_pull, example_pull, example_stock, example_stop, example_mass}
 use Rattle.rules.specs.Examples.{stretch, example_approach, five_parts}
 
 -- x is rounded down to lo and up to hi
@@ -36,6 +37,10 @@ level_window = stop_window (example_book (pos 0)) 0
 
 abbrev pub level_stop : StopFigures
 level_stop = record { distance = 24917; least = 74250; steps = 1 }
+
+-- a climb of 8 per mille, by its stop mark
+abbrev pub climb : ℕ → SectionFigures
+climb mark = record (long_section (pos 80)) { stop = mark }
 
 -- a length in millimetres, in thousandths of them and rounded down
 abbrev pub micrometres : Fraction → ℤ
@@ -65,3 +70,7 @@ pub record CheckedFigures : Type 0 where
   pub surplus_on_the_level : (pull : Falling) → micrometres (promised_surplus freight (level_approach pull) level_window 100 level_stop) ≡ pos 3677
   pub allowance_on_the_level : allowance 5 level_stop ≡ 4
   pub finer_on_a_fall : micrometres (finer_distance freight (example_approach (negsuc 99)) 250 (five_parts (stretch (negsuc 99)) (stretch (pos 0)))) ≡ pos 90194290
+  -- what the locomotive hauls on a climb of 8 per mille: by its whole pull, there from a stand too, and by nine tenths of it
+  pub hauled_on_a_climb : example_mass full_pull (climb 0 ∷ []) ≡ hauls 29000
+  pub hauled_from_a_stop : example_mass full_pull (climb 1 ∷ []) ≡ hauls 28000
+  pub hauled_by_less : example_mass example_pull (straight_section 1500 (pos 0) ∷ straight_section 1500 (pos 80) ∷ []) ≡ hauls 26000

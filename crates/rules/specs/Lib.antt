@@ -13,6 +13,9 @@ pub mod Stop
 pub mod Exact
 pub mod Finer
 pub mod Questions
+pub mod Speed
+pub mod Mass
+pub mod History
 pub mod Allowance
 pub mod Promises
 pub mod Sample

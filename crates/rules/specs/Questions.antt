@@ -1,9 +1,9 @@
 -- The numbered questions before every answer, one list for each call, in the order in which they are asked.
-use Rattle.std.specs.Prelude.{ℕ, ◌+◌, ◌*◌, Bool, cond, ◌&&◌, ◌||◌, leb, List, [], ◌∷◌, length, pos, negsuc, ◌==◌, int_le, nat_le, nat_lt, All, IsTrue, Ok}
+use Rattle.std.specs.Prelude.{ℕ, ◌+◌, ◌*◌, Bool, cond, ◌&&◌, ◌||◌, leb, List, [], ◌∷◌, length, pos, negsuc, ◌==◌, int_le, nat_le, nat_lt, All, IsTrue}
 use Rattle.rules.specs.declared.figures.VehicleFigures.{VehicleFigures}
 use Rattle.rules.specs.declared.figures.SectionFigures.{SectionFigures}
 use Rattle.rules.specs.declared.figures.StopFigures.{StopFigures}
-use Rattle.rules.specs.Refusals.{Question, ◌otherwise◌, Reply, decide, first_no, stop_reply}
+use Rattle.rules.specs.Refusals.{Question, ◌otherwise◌, Reply, stops, decide, first_no}
 use Rattle.rules.specs.Law.{Stock}
 use Rattle.rules.specs.Kind.{Kind}
 use Rattle.rules.specs.Book.{Book, Vehicle, locomotive_letter, wagon_letter, locomotives, line_length}
@@ -63,24 +63,35 @@ approaching speed-in-range b place factor more =
     ∷ (reaches b place otherwise 9)
     ∷ more
 
--- what is asked of the forces and the distance
-abbrev pub stopping : Kind → Approach → ℕ → List Question
-stopping k a v =
+-- what is asked of the forces
+abbrev pub braking : Approach → ℕ → List Question → List Question
+braking a v more =
     (leb 1000 (brake_force a v) otherwise 10)
     ∷ (all_hold (holding_force a) (steps_from v) otherwise 11)
-    ∷ (leb (distance k a v) (1000 * a.reach) otherwise 12)
-    ∷ []
+    ∷ more
+
+-- a distance in millimetres lies within the braking distance
+abbrev pub within_reach : Approach → ℕ → Bool
+within_reach a d = leb d (1000 * a.reach)
+
+-- and of the distance
+abbrev pub stopping : Kind → Approach → ℕ → List Question
+stopping k a v = braking a v ((within_reach a (distance k a v) otherwise 12) ∷ [])
 
 abbrev pub stop_questions : Kind → Stock → Book → ℕ → ℕ → ℕ → List Question
 stop_questions k s b place speed factor =
     approaching (nat_le speed 1600) b place factor (stopping k (approach_at s b place factor) speed)
 
--- the figures of an answered stop
+-- the three figures of an answered stop
 abbrev pub figures_of : Kind → Approach → ℕ → StopFigures
 figures_of k a v = record { distance = distance k a v; least = least_force a v; steps = length (steps_from v) }
 
+-- three figures by their names
+abbrev pub figures : ℕ × ℕ × ℕ → StopFigures
+figures t = record { distance = t.0; least = t.1; steps = t.2 }
+
 abbrev pub stop_figures : Kind → Approach → ℕ → Reply
-stop_figures k a v = stop_reply (Ok (figures_of k a v))
+stop_figures k a v = stops (distance k a v) (least_force a v) (length (steps_from v))
 
 -- what the book answers to a stop question
 abbrev pub asked_to_stop : Kind → Stock → Book → ℕ → ℕ → ℕ → Reply

@@ -1,8 +1,7 @@
 -- The number by which each refusal is told, and how numbered questions decide.
 use Rattle.std.specs.Prelude.{◌≡◌, ℕ, ◌⊎◌, Bool, true, false, cond, List, [], ◌∷◌, ◌++◌, All, Some, None, Ok, Err, codes, decimal, Option, Result}
-use Rattle.rules.specs.declared.figures.StopFigures.{StopFigures}
 use Rattle.rules.specs.declared.refusal.Refusal.{Refusal}
-use Rattle.rules.specs.declared.refusal.Refusal.TheVariants.{UnlawfulVehicle, TrainFull, NoSuchVehicle, UnlawfulSection, LineFull, UnlawfulBrakingDistance, QuestionOutOfRange, NoLocomotive, LineTooShort, WeakBrake, WeakStep, StopsTooFar, UnlawfulLaw}
+use Rattle.rules.specs.declared.refusal.Refusal.TheVariants.{UnlawfulVehicle, TrainFull, NoSuchVehicle, UnlawfulSection, LineFull, UnlawfulBrakingDistance, QuestionOutOfRange, NoLocomotive, LineTooShort, WeakBrake, WeakStep, StopsTooFar, HaulsNothing, UnlawfulLaw}
 
 abbrev pub number_of : Refusal → ℕ
 number_of UnlawfulVehicle = 1
@@ -17,6 +16,7 @@ number_of LineTooShort = 9
 number_of WeakBrake = 10
 number_of WeakStep = 11
 number_of StopsTooFar = 12
+number_of HaulsNothing = 13
 number_of UnlawfulLaw = 14
 
 -- the number that a result tells: none where the call was not refused
@@ -61,9 +61,13 @@ abbrev pub unless : {X : Type 0} → Option ℕ → X → X → X
 unless None changed old = changed
 unless (Some n) changed old = old
 
--- what comes back from a question: its figures, or a refusal with its number
+-- what comes back from a call: an edit passes; a stop is answered with its distance in millimetres, its least force and the number
+-- of its steps; a speed and a mass with that one figure; or the call is refused with a number
 pub data Reply : Type 0 where
+  passed : Reply
   stops : ℕ → ℕ → ℕ → Reply
+  runs : ℕ → Reply
+  hauls : ℕ → Reply
   refused : ℕ → Reply
 
 -- the reply that is due where no question refuses
@@ -71,10 +75,23 @@ abbrev pub decide : Option ℕ → Reply → Reply
 decide None r = r
 decide (Some n) r = refused n
 
--- the reply that the result of a stop question is: distance in millimetres, least force, number of steps
-abbrev pub stop_reply : Result StopFigures Refusal → Reply
-stop_reply (Ok s) = stops s.distance s.least s.steps
-stop_reply (Err e) = refused (number_of e)
+-- the reply that a result is, by the reply that its answer is
+abbrev pub reply_of : {X : Type 0} → (X → Reply) → Result X Refusal → Reply
+reply_of answer (Ok x) = answer x
+reply_of answer (Err e) = refused (number_of e)
+
+-- of an edit, and of the three questions
+abbrev pub edit_reply : {X : Type 0} → Result X Refusal → Reply
+edit_reply = reply_of (λ _. passed)
+
+abbrev pub stop_reply : Result (ℕ × ℕ × ℕ) Refusal → Reply
+stop_reply = reply_of (λ t. stops t.0 t.1 t.2)
+
+abbrev pub speed_reply : Result ℕ Refusal → Reply
+speed_reply = reply_of runs
+
+abbrev pub mass_reply : Result ℕ Refusal → Reply
+mass_reply = reply_of hauls
 
 -- what is printed of a refusal
 abbrev pub refusal_text : Refusal → List ℕ

@@ -1,5 +1,5 @@
 -- The example that figures are checked on: a locomotive of 100 t and a wagon of 60 t with the freight brake, on one long
--- section, asked at its start for full braking.
+-- section, asked at its start for full braking; and what such a locomotive hauls.
 use Rattle.std.specs.Prelude.{ℕ, true, List, [], ◌∷◌, ℤ}
 use Rattle.rules.specs.declared.figures.PointFigures.{PointFigures}
 use Rattle.rules.specs.declared.figures.SectionFigures.{SectionFigures}
@@ -11,6 +11,7 @@ use Rattle.rules.specs.Formulas.{cast_iron, wagon_drag, df4}
 use Rattle.rules.specs.Kind.{freight}
 use Rattle.rules.specs.Book.{Book, Vehicle, book, vehicle, appended}
 use Rattle.rules.specs.Questions.{appending, asked_to_stop}
+use Rattle.rules.specs.Mass.{asked_for_mass}
 use Rattle.rules.specs.Refusals.{Reply, first_no, unless}
 
 abbrev pub example_train : List Vehicle
@@ -32,9 +33,12 @@ example_book i =
 abbrev pub example_points : List PointFigures
 example_points = record { speed = 0; value = 40000 } ∷ record { speed = 400; value = 20000 } ∷ []
 
--- nine tenths of what it tells
+-- what it tells, and nine tenths of that
+abbrev pub full_pull : Falling
+full_pull = rounded_falling (table_pull example_points)
+
 abbrev pub example_pull : Falling
-example_pull = scaled 90 (rounded_falling (table_pull example_points))
+example_pull = scaled 90 full_pull
 
 -- cast iron blocks, a DF4 locomotive of some pull, and wagons
 abbrev pub example_stock : Falling → Stock
@@ -43,3 +47,7 @@ example_stock pull = stock (rounded_falling cast_iron) pull (rounded_drag df4) (
 -- the stop that is asked for
 abbrev pub example_stop : Falling → Book → ℕ → Reply
 example_stop pull b speed = asked_to_stop freight (example_stock pull) b 0 speed 10
+
+-- the mass that is asked for over some sections, at 20 km/h and wagons of 60 t
+abbrev pub example_mass : Falling → List SectionFigures → Reply
+example_mass pull fs = asked_for_mass (example_stock pull) (book example_train fs 1000) (record { speed = 200; gross = 600 })

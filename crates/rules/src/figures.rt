@@ -1,6 +1,7 @@
 ghost use Rattle.std.specs.Prelude.{◌≡◌, Some};
-ghost use Rattle.rules.specs.Printed.{vehicle_text, section_text, stop_text};
+ghost use Rattle.rules.specs.Printed.{vehicle_text, section_text, stop_text, stop_question_text, speed_question_text, mass_question_text, question_text};
 ghost use Rattle.rules.specs.Given.{straight_section, full_braking};
+ghost use Rattle.rules.specs.Questions.{figures};
 
 use std::fmt;
 
@@ -113,12 +114,92 @@ impl StopQuestion {
     }
 }
 
+impl fmt::Display for StopQuestion {
+    ghost output = { λ x. Some (stop_question_text x) };
+
+    fn fmt<W: fmt::Write>(&self, f: &mut fmt::Formatter<W>) -> fmt::Result {
+        write!(
+            f,
+            "stop at place {}, speed {}, factor {}",
+            self.place, self.speed, self.factor
+        )
+    }
+}
+
+/// The figures of a speed question as they are given: a place in metres from the start of the line, and a factor in tenths of full
+/// braking.
+#[derive(Clone, Copy, PartialEq, Eq, Debug)]
+pub struct SpeedQuestion {
+    pub place: u32,
+    pub factor: u32,
+}
+
+impl fmt::Display for SpeedQuestion {
+    ghost output = { λ x. Some (speed_question_text x) };
+
+    fn fmt<W: fmt::Write>(&self, f: &mut fmt::Formatter<W>) -> fmt::Result {
+        write!(f, "speed at place {}, factor {}", self.place, self.factor)
+    }
+}
+
+/// The figures of a mass question as they are given: a speed in tenths of km/h, and a gross mass per wagon in tenths of a tonne.
+#[derive(Clone, Copy, PartialEq, Eq, Debug)]
+pub struct MassQuestion {
+    pub speed: u32,
+    pub gross: u32,
+}
+
+impl fmt::Display for MassQuestion {
+    ghost output = { λ x. Some (mass_question_text x) };
+
+    fn fmt<W: fmt::Write>(&self, f: &mut fmt::Formatter<W>) -> fmt::Result {
+        write!(
+            f,
+            "mass at speed {}, mass per wagon {}",
+            self.speed, self.gross
+        )
+    }
+}
+
+/// What may be asked of a sheet: how far the train needs to stop, how fast it may go at a place, or how heavy its wagons may be.
+#[derive(Clone, Copy, PartialEq, Eq, Debug)]
+pub enum Question {
+    Stop(StopQuestion),
+    Speed(SpeedQuestion),
+    Mass(MassQuestion),
+}
+
+impl fmt::Display for Question {
+    ghost output = { λ x. Some (question_text x) };
+
+    fn fmt<W: fmt::Write>(&self, f: &mut fmt::Formatter<W>) -> fmt::Result {
+        match self {
+            Question::Stop(question) => write!(f, "{question}"),
+            Question::Speed(question) => write!(f, "{question}"),
+            Question::Mass(question) => write!(f, "{question}"),
+        }
+    }
+}
+
 /// The figures of a stop: its distance in millimetres, the least force in milli, and the number of its steps.
 #[derive(Clone, Copy, PartialEq, Eq, Debug)]
 pub struct StopFigures {
     pub distance: u32,
     pub least: u32,
     pub steps: u32,
+}
+
+impl From<(u32, u32, u32)> for StopFigures {
+    ghost from_gives = { λ t s. s ≡ figures t };
+
+    // The three figures of an answer, by their names.
+    fn from((distance, least, steps): (u32, u32, u32)) -> StopFigures {
+        StopFigures {
+            distance,
+            least,
+            steps,
+        }
+    }
 }
 
 impl fmt::Display for StopFigures {

@@ -6,5 +6,8 @@ pub mod figures;
 pub mod refusal;
 pub mod theorems;
 
-pub use figures::{PointFigures, SectionFigures, StopFigures, StopQuestion, VehicleFigures};
+pub use figures::{
+    MassQuestion, PointFigures, Question, SectionFigures, SpeedQuestion, StopFigures, StopQuestion,
+    VehicleFigures,
+};
 pub use refusal::Refusal;

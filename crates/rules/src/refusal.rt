@@ -23,7 +23,7 @@ pub enum Refusal {
     QuestionOutOfRange = 7,
     /// The train has no locomotive.
     NoLocomotive = 8,
-    /// The line ends before the braking distance does.
+    /// The line ends before the braking distance does; for a mass, it has no section.
     LineTooShort = 9,
     /// The brake force at the speed asked is under 1 kgf/t.
     WeakBrake = 10,
@@ -31,6 +31,8 @@ pub enum Refusal {
     WeakStep = 11,
     /// The train does not stop within the braking distance.
     StopsTooFar = 12,
+    /// The locomotives do not haul 50 t.
+    HaulsNothing = 13,
     /// The figures of a law or a layer are out of their range.
     UnlawfulLaw = 14,
 }

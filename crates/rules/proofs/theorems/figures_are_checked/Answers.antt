@@ -1,10 +1,11 @@
 -- Each figure is what its definition computes.
 use Rattle.std.proofs.Common.{refl}
 use Rattle.rules.specs.Stop.{brake_force, train_drag, holding_force, braking_run, delay_run}
+use Rattle.rules.specs.Mass.{holds_cautiously, greatest_mass}
 use Rattle.rules.proofs.theorems.figures_are_checked.Goals as goal
 
 pub returns : goal.returns
-unfolding brake_force train_drag holding_force braking_run delay_run
+unfolding brake_force train_drag holding_force braking_run delay_run holds_cautiously greatest_mass
 returns c =
     record {
       cast_iron_at_500 = (refl, refl);
@@ -25,4 +26,7 @@ returns c =
       surplus_on_the_level = λ _. refl;
       allowance_on_the_level = refl;
       finer_on_a_fall = refl;
+      hauled_on_a_climb = refl;
+      hauled_from_a_stop = refl;
+      hauled_by_less = refl;
     }
