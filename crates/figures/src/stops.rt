@@ -1,7 +1,7 @@
 use laws::{ElectroPneumatic, Freight, FreightByHand, NoPull, Passenger, PassengerByHand};
 use reckoning::stop;
 use report::{Outcome, diesel, example_sheet, stop_of_example, tell_stop};
-use rules::{SectionFigures, StopQuestion, VehicleFigures};
+use rules::{SectionFigures, StopFigures, StopQuestion, VehicleFigures};
 use sheet::Sheet;
 use std::io;
 
@@ -10,8 +10,9 @@ pub fn example_train(rt: &HostRuntime) -> io::Result<()> {
     println!(rt; "stops of the example train")?;
     for (gradient, speed) in [(-100, 100), (0, 100), (100, 100), (0, 0)] {
         let sheet = example_sheet(rt.alloc(), gradient)?;
-        let answer = Outcome(stop_of_example(&sheet, speed));
-        println!(rt; "gradient {gradient}, speed {speed}: {answer}")?;
+        let answer = stop_of_example(&sheet, speed);
+        let told = Outcome(answer.map(|figures| StopFigures::from(figures)));
+        println!(rt; "gradient {gradient}, speed {speed}: {told}")?;
     }
     Ok(())
 }
@@ -85,8 +86,9 @@ pub fn long_stops(rt: &HostRuntime) -> io::Result<()> {
             speed,
             factor: 9,
         };
-        let answer = Outcome(stop::<Freight, _>(&sheet, &diesel(NoPull), question));
-        println!(rt; "place {place}, speed {speed}: {answer}")?;
+        let answer = stop::<Freight, _>(&sheet, &diesel(NoPull), question);
+        let told = Outcome(answer.map(|figures| StopFigures::from(figures)));
+        println!(rt; "place {place}, speed {speed}: {told}")?;
     }
     Ok(())
 }

@@ -21,8 +21,12 @@ approach_of a s =
       lowest = a.lowest;
     }
 
--- an approach asked for at a place of the book: refused by the first "no", else as the book has it, for every stock
+-- it is that of a place that may be approached, by a factor: no question refuses that, and it is as the book has it, for every stock
+pub record IsApproach (b : Book) (place factor : ℕ) (a : Approach) : Type 0 where
+  pub reached : first_no (approaching true b place factor []) ≡ None
+  pub same : (s : Stock) → approach_of a s ≡ approach_at s b place factor
+
+-- an approach asked for at a place of the book, or the first "no"
 abbrev pub Approached : Book → ℕ → ℕ → Result Approach Refusal → Type 0
-Approached b place factor (Ok a) =
-    (first_no (approaching true b place factor []) ≡ None) × ((s : Stock) → approach_of a s ≡ approach_at s b place factor)
+Approached b place factor (Ok a) = IsApproach b place factor a
 Approached b place factor (Err e) = first_no (approaching true b place factor []) ≡ Some (number_of e)

@@ -1,12 +1,12 @@
-ghost use Rattle.std.specs.Prelude.{◌≡◌, ◌+◌, ◌≤◌, IfOk};
+ghost use Rattle.std.specs.Prelude.{◌≡◌, ◌+◌, ◌*◌, ◌≤◌, [], nat_le, IfOk, IsTrue};
 ghost use Rattle.rules.specs.Book.{per_wagon};
-ghost use Rattle.rules.specs.Questions.{place_in_range, stopping, stop_figures};
+ghost use Rattle.rules.specs.Questions.{braking, place_in_range, stop_figures};
 ghost use Rattle.rules.specs.Kind.{kind};
 ghost use Rattle.rules.specs.Refusals.{first_no, decide, stop_reply};
 
 use crate::braking::Braking;
 use laws::{BrakeKind, StockLaws};
-use rules::{Refusal, StopFigures};
+use rules::Refusal;
 use sheet::Sheet;
 use train::Totals;
 use units::{Grade, Gross, Speed};
@@ -65,13 +65,14 @@ impl Approach {
         })
     }
 
-    // How the train stops from a speed, by a kind of brake and a stock.
-    pub(crate) fn stop<K: BrakeKind, S: StockLaws>(
+    // How the train stops from a speed, by a kind of brake and a stock: its distance in millimetres, the least force in milli, and
+    // the number of its steps; refused where a force does not hold the train. Whether it stops in time is not judged.
+    pub(crate) fn reckon<K: BrakeKind, S: StockLaws>(
         &self,
         stock: &S,
         v: Speed,
-    ) -> Result<StopFigures, Refusal>
-        ensures { stop_reply result ≡ decide (first_no (stopping (kind K.T K.C) (approach_of self.now (S.meaning stock.now)) v)) (stop_figures (kind K.T K.C) (approach_of self.now (S.meaning stock.now)) v) }
+    ) -> Result<(u64, u32, u32), Refusal>
+        ensures { stop_reply result ≡ decide (first_no (braking (approach_of self.now (S.meaning stock.now)) v [])) (stop_figures (kind K.T K.C) (approach_of self.now (S.meaning stock.now)) v) }
     {
         let train = Braking::new(*self, stock);
         let brake = train.brake_force(v);
@@ -80,14 +81,15 @@ impl Approach {
         }
         let run = train.run(v, brake)?;
         let distance = train.delay::<K>(v, brake) + run.distance;
-        if distance > 1000 * u64::from(self.reach) {
-            return Err(Refusal::StopsTooFar);
-        }
-        Ok(StopFigures {
-            distance: distance as u32,
-            least: run.least as u32,
-            steps: run.steps,
-        })
+        Ok((distance, run.least as u32, run.steps))
+    }
+
+    // Whether a distance in millimetres lies within the braking distance.
+    pub(crate) fn is_within_reach(&self, distance: u64) -> bool
+        ensures value { result ≡ nat_le distance (1000 * self.now.reach) }
+        ensures small { IsTrue result → distance ≤ 4000000 }
+    {
+        distance <= 1000 * u64::from(self.reach)
     }
 }
 

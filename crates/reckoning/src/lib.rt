@@ -7,8 +7,9 @@ mod approach;
 mod braking;
 mod edges;
 pub mod questions;
+mod search;
 mod step;
 mod steps;
 
 pub use allowances::allowance;
-pub use questions::stop;
+pub use questions::{speed, stop};

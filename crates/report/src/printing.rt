@@ -2,7 +2,7 @@ use crate::outcome::Outcome;
 use crate::sample::diesel;
 use laws::{BrakeKind, Law, NoPull, QuadraticDrag, Reading};
 use reckoning::stop;
-use rules::StopQuestion;
+use rules::{StopFigures, StopQuestion};
 use sheet::Sheet;
 use std::{fmt, io};
 
@@ -22,10 +22,11 @@ pub fn tell_stop<K: BrakeKind, L: fmt::Display + Drop>(
     sheet: &Sheet,
     question: StopQuestion,
 ) -> io::Result<()> {
+    let answer = stop::<K, _>(sheet, &diesel(NoPull), question);
     tell(
         rt,
         label,
-        Outcome(stop::<K, _>(sheet, &diesel(NoPull), question)),
+        Outcome(answer.map(|figures| StopFigures::from(figures))),
     )
 }
 

@@ -9,7 +9,7 @@ use laws::{CastIron, Freight, Locomotive, QuadraticDrag, Stock, WagonDrag};
 use layers::Scale;
 use pull_table::PullTable;
 use reckoning::stop;
-use rules::{PointFigures, Refusal, SectionFigures, StopFigures, StopQuestion, VehicleFigures};
+use rules::{PointFigures, Refusal, SectionFigures, StopQuestion, VehicleFigures};
 use sheet::Sheet;
 use std::alloc::{AllocError, Global};
 
@@ -50,7 +50,7 @@ pub fn example_pull() -> Scale<PullTable>
 
 /// How far a train needs to stop with a DF4 of the example's pull and the freight brake, from the start of its line, by full
 /// braking.
-pub fn stop_of_example(sheet: &Sheet, speed: u32) -> Result<StopFigures, Refusal>
+pub fn stop_of_example(sheet: &Sheet, speed: u32) -> Result<(u32, u32, u32), Refusal>
     ensures { stop_reply result ≡ example_stop example_pull sheet.now speed }
 {
     let question = StopQuestion::full_braking(0, speed);

@@ -1,28 +1,52 @@
-use Rattle.std.proofs.Common.{◌≡◌, ℕ, ◌≤◌, Option, sym, ap, ◌∙◌, rules}
+use Rattle.std.proofs.Common.{◌≡◌, ℕ, Result, Ok, Err, subst, sym, rules}
+use Rattle.rules.specs.declared.refusal.Refusal.{Refusal}
+use Rattle.rules.specs.declared.refusal.Refusal.TheVariants.{StopsTooFar}
 use Rattle.rules.specs.Kind.{kind}
-use Rattle.rules.specs.Questions.{stopping, stop_figures, asked_to_stop}
-use Rattle.rules.specs.Refusals.{Reply, first_no, decide, stop_reply}
-use Rattle.rules.specs.Stop.{Approach, approach_at}
-use Rattle.rules.proofs.Promised.{decides, promised}
+use Rattle.rules.specs.Refusals.{stop_reply}
 use Rattle.reckoning.specs.Approaches.{approach_of}
-use Rattle.reckoning.proofs.Asking.{approached}
+use Rattle.reckoning.proofs.Asking.{kept, replied, weak, far, near}
 use Rattle.reckoning.proofs.questions.stop.Goals as goal
+
+pub returns-in_err-distance : goal.returns-in_err-distance
+returns-in_err-distance g c =
+    let k = kind g.K.BrakeKind.T g.K.BrakeKind.C in
+    let s = g.S.StockLaws.meaning c.args.stock.now in
+    let a = c.in_ok-approach.approach in
+    let v = c.in_ok-v.v in
+    let refusal = c.in_err-distance.field-0.0 in
+    let r = c.from_residual-in_err-distance.result in
+    let is : r ≡ Err refusal = search rules in
+    let reply =
+    subst (λ (x : Result (ℕ × ℕ × ℕ) Refusal). stop_reply x ≡ replied k (approach_of a s) v) (sym is) (weak k (approach_of a s) v refusal c.in_err-distance.ensures) in
+    let all =
+    kept k s c.args.sheet.now c.args.question a v (search rules) (search rules) c.in_ok-approach.ensures.value g.met.K.BrakeKind.lawful (g.met.S.StockLaws.lawful c.args.stock.now)
+    (c.in_ok-approach.ensures.lawful s) r reply in
+    record { figures = all.figures; decided = all.decided; safe = all.safe; close = all.close }
+
+pub returns-then-not-is_within_reach : goal.returns-then-not-is_within_reach
+returns-then-not-is_within_reach g c =
+    let k = kind g.K.BrakeKind.T g.K.BrakeKind.C in
+    let s = g.S.StockLaws.meaning c.args.stock.now in
+    let a = c.in_ok-approach.approach in
+    let v = c.in_ok-v.v in
+    let r : Result (ℕ × ℕ × ℕ) Refusal = Err StopsTooFar in
+    let reply =
+    far k (approach_of a s) v c.in_ok-distance.distance c.in_ok-distance.least c.in_ok-distance.steps c.in_ok-distance.ensures (sym c.if-not-is_within_reach.ensures.value) in
+    let all =
+    kept k s c.args.sheet.now c.args.question a v (search rules) (search rules) c.in_ok-approach.ensures.value g.met.K.BrakeKind.lawful (g.met.S.StockLaws.lawful c.args.stock.now)
+    (c.in_ok-approach.ensures.lawful s) r reply in
+    record { figures = all.figures; decided = all.decided; safe = all.safe; close = all.close }
 
 pub returns : goal.returns
 returns g c =
     let k = kind g.K.BrakeKind.T g.K.BrakeKind.C in
     let s = g.S.StockLaws.meaning c.args.stock.now in
-    let b = c.args.sheet.now in
-    let q = c.args.question in
-    let a = approach_at s b q.place q.factor in
-    let reply : Approach → ℕ → Reply = λ x v. decide (first_no (stopping k x v)) (stop_figures k x v) in
-    let speed : c.in_ok-v.v ≡ q.speed = search rules in
-    let slow : q.speed ≤ 1600 = search rules in
-    let here = c.in_ok-approach.ensures.value in
-    let here_is : reply (approach_of c.in_ok-approach.approach s) c.in_ok-v.v ≡ reply a c.in_ok-v.v = ap (λ (x : Approach). reply x c.in_ok-v.v) (here.1 s) in
-    let at_speed : reply a c.in_ok-v.v ≡ reply a q.speed = ap (reply a) speed in
-    let asked : reply a q.speed ≡ asked_to_stop k s b q.place q.speed q.factor =
-    ap (λ (o : Option ℕ). decide o (stop_figures k a q.speed)) (sym (approached b q.place q.speed q.factor (stopping k a q.speed) slow here.0)) in
-    let figures : stop_reply c.stop.result ≡ asked_to_stop k s b q.place q.speed q.factor = c.stop.ensures ∙ here_is ∙ at_speed ∙ asked in
-    let worth = promised k s b q g.met.K.BrakeKind.lawful (g.met.S.StockLaws.lawful c.args.stock.now) (c.in_ok-approach.ensures.lawful s) c.stop.result figures in
-    record { figures = figures; decided = decides k s b q c.stop.result figures; safe = worth.0; close = worth.1 }
+    let a = c.in_ok-approach.approach in
+    let v = c.in_ok-v.v in
+    let r : Result (ℕ × ℕ × ℕ) Refusal = Ok (c.in_ok-distance.distance, c.in_ok-distance.least, c.in_ok-distance.steps) in
+    let reply =
+    near k (approach_of a s) v c.in_ok-distance.distance c.in_ok-distance.least c.in_ok-distance.steps c.in_ok-distance.ensures (sym c.if-not-is_within_reach.ensures.value) in
+    let all =
+    kept k s c.args.sheet.now c.args.question a v (search rules) (search rules) c.in_ok-approach.ensures.value g.met.K.BrakeKind.lawful (g.met.S.StockLaws.lawful c.args.stock.now)
+    (c.in_ok-approach.ensures.lawful s) r reply in
+    record { figures = all.figures; decided = all.decided; safe = all.safe; close = all.close }
