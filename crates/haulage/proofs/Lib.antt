@@ -1,0 +1,2 @@
+mod Limits
+mod Loads

@@ -1,0 +1,3 @@
+pub mod Replies
+pub mod Calls
+pub mod Printed

@@ -1,0 +1,16 @@
+// Whole histories of a sheet: a list of calls, performed in its order with a reply beside each, carries the whole promise.
+#![tactic(auto)]
+
+pub mod asked;
+pub mod call;
+pub mod either;
+pub mod histories;
+pub mod inquiry;
+pub mod reply;
+
+pub use asked::Asked;
+pub use call::{Call, Entry};
+pub use either::Either;
+pub use histories::perform;
+pub use inquiry::Inquiry;
+pub use reply::Reply;
