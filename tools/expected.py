@@ -6,12 +6,13 @@
     tools/expected.py figures    | diff - crates/figures/stdout
     tools/expected.py readings   | diff - crates/readings/stdout
     tools/expected.py makers     | diff - crates/makers/stdout
+    tools/expected.py mixtures   | diff - crates/mixtures/stdout
 """
 import sys
 from fractions import Fraction as F
 from math import ceil, floor
 
-KINDS = {"F": (7, 10), "P": (4, 5), "E": (2, 0), "H": (30, 0), "J": (60, 0)}
+KINDS = {"F": (7, 10), "P": (4, 5), "E": (2, 0), "H": (30, 0), "J": (60, 0), "combined": (3, 6)}
 EDGES = [0, 100, 200, 300, 400, 500] + list(range(550, 1601, 50))
 
 
@@ -172,6 +173,42 @@ class Sheet:
         check(distance <= 1000 * self.reach, 12)
         return distance, min([b] + forces), len(runs)
 
+    def speed(self, kind, place, g, laws=DIESEL):
+        self.stop(kind, place, 0, g, laws)
+        best = 0
+        for v in range(50, 1601, 50):
+            try:
+                self.stop(kind, place, v, g, laws)
+            except Refused:
+                break
+            best = v
+        return best
+
+    def holds(self, x, v, q, laws, exactly=False):
+        """Whether wagons of the mass x are hauled over every section, by cautious or by exact values."""
+        pull, pulling, wagon = laws
+        locomotives = [c[1] for c in self.train if c[0] == "L"]
+        n, p = len(locomotives), sum(locomotives)
+        for s in self.line:
+            ways = [(v, v, 0, 130_000)] + ([(0, 100, 4000, 95_000)] if s[4] else [])
+            for at, drags_at, more, coupler in ways:
+                f, w, u = pull(at), pulling(drags_at, q), wagon(drags_at, q)
+                f, w, u = (f[0], w[0], u[0]) if exactly else (f[1], w[2], u[2])
+                h = (max(0, grade(s)) if exactly else max(0, ceil(grade(s)))) + more
+                own = p * (w + h)
+                if own + x * (u + h) > min(10_000 * n * f, 10_000 * coupler + own):
+                    return False
+        return True
+
+    def mass(self, v, q, laws):
+        check(v <= 1600 and 50 <= q <= 2000, 7)
+        check(any(c[0] == "L" for c in self.train), 8)
+        check(self.line, 9)
+        check(self.holds(500, v, q, laws), 13)
+        x = max(x for x in range(500, 100_001, 500) if self.holds(x, v, q, laws))
+        assert self.holds(x, v, q, laws, exactly=True)
+        return x
+
     def stop_with_allowance(self, kind, place, v, g, laws=DIESEL):
         friction, coasting, wagon = laws
         distance, least, steps = self.stop(kind, place, v, g, laws)
@@ -204,64 +241,89 @@ def show(sheet):
     print(f"  braking distance {sheet.reach}")
 
 
+def answer(what, f, *args):
+    """A speed or a mass."""
+    try:
+        return f"up to {what}{f(*args)}"
+    except Refused as e:
+        return f"refused {e.args[0]}"
+
+
 def inspection():
     s = Sheet()
     print("new sheet")
     show(s)
+    pull = scale(table([(0, 40_000), (400, 20_000)]), 90)
+    names = {"F": "freight", "P": "passenger", "H": "freight by hand"}
 
     def couple(*a):
         print("couple", *a, end=": ")
         print(outcome(s.couple, *a))
-        show(s)
 
     def append(*a):
         print("append", *a, end=": ")
         print(outcome(s.append, *a))
-        show(s)
 
-    def cut_out(k):
-        print(f"cut out {k}: {outcome(s.brake, k, False)}")
-        show(s)
+    def stop(kind, place, v, g):
+        told = outcome(s.stop_with_allowance, kind, place, v, g)
+        print(f"stop at place {place}, speed {v}, factor {g} by {names[kind]} brake: {told}")
 
-    def restore(k):
-        print(f"restore {k}: {outcome(s.brake, k, True)}")
-        show(s)
+    def speed(kind, place, g):
+        print(f"speed at place {place}, factor {g} by {names[kind]} brake: {answer('speed ', s.speed, kind, place, g)}")
 
-    def ask(kind, place, speed, factor):
-        name = {"F": "freight", "P": "passenger", "H": "freight by hand"}[kind]
-        told = outcome(s.stop_with_allowance, kind, place, speed, factor)
-        print(f"stop by {name} brake, place {place}, speed {speed}, factor {factor}: {told}")
+    def mass(v, q):
+        print(f"mass at speed {v}, mass per wagon {q} by freight brake: {answer('mass ', s.mass, v, q, (pull, df4, wagon_drag))}")
 
+    def brake(k, on):
+        print(f"{'restore' if on else 'cut out'} {k}: {outcome(s.brake, k, on)}")
+
+    print("made up")
     couple("L", 1000, 400)
     couple("W", 40, 10)
     couple("W", 600, 200)
     append(1500, 0, 0, 0, 0)
     append(1500, 80, 0, 0, 0)
-    ask("F", 0, 100, 10)
-    cut_out(1)
-    ask("F", 0, 100, 10)
-    cut_out(5)
-    ask("F", 2500, 100, 10)
-    cut_out(0)
-    ask("F", 0, 100, 10)
-    restore(0)
-    restore(1)
-    ask("F", 0, 100, 10)
-    ask("F", 0, 600, 10)
-    ask("F", 0, 600, 7)
-    ask("P", 0, 600, 10)
-    ask("H", 0, 600, 10)
+    stop("F", 0, 100, 10)
+    show(s)
+
+    print("inspected")
+    brake(1, False)
+    stop("F", 0, 100, 10)
+    brake(5, False)
+    stop("F", 2500, 100, 10)
+    speed("F", 0, 10)
+    brake(0, False)
+    stop("F", 0, 100, 10)
+    speed("F", 0, 10)
+    brake(0, True)
+    brake(1, True)
+    stop("F", 0, 100, 10)
+    show(s)
+
+    print("compared")
+    stop("F", 0, 600, 10)
+    stop("F", 0, 600, 7)
+    stop("P", 0, 600, 10)
+    stop("H", 0, 600, 10)
+    for kind, g in [("F", 10), ("F", 7), ("P", 10), ("H", 10)]:
+        speed(kind, 0, g)
+    for v in (200, 400, 401):
+        mass(v, 600)
+    show(s)
+
+    print("sent off")
     print(f"set braking distance 300: {outcome(s.set_distance, 300)}")
-    show(s)
     print(f"set braking distance 1500: {outcome(s.set_distance, 1500)}")
-    show(s)
-    ask("F", 0, 600, 7)
+    stop("F", 0, 600, 7)
+    speed("F", 0, 7)
     print(f"uncouple: {outcome(s.uncouple)}")
-    show(s)
-    ask("F", 0, 600, 7)
+    stop("F", 0, 600, 7)
+    speed("F", 0, 7)
     print(f"lift: {outcome(s.lift)}")
+    stop("F", 0, 600, 7)
+    speed("F", 0, 7)
+    mass(200, 600)
     show(s)
-    ask("F", 0, 600, 7)
 
 
 # ---- the programs `refusals` and `figures`
@@ -331,6 +393,26 @@ def refusals():
     s.brake(1, False)
     tell("gradient -400, both cut out", s.stop, "F", 0, 100, 10)
     tell("speed 1600", sample(0).stop, "F", 0, 1600, 10)
+
+    wagon = train(("W", 600, 200))
+    wagon.append(1000, 0, 0, 0, 0)
+    print("speeds")
+    s = sample(0)
+    for place, g in [(4_000_001, 10), (0, 0), (0, 11), (2001, 10), (2000, 10)]:
+        print(f"speed {place} {g}: {answer('', s.speed, 'F', place, g)}")
+    s.brake(0, False)
+    s.brake(1, False)
+    for s in (s, wagon):
+        print(f"speed 0 10: {answer('', s.speed, 'F', 0, 10)}")
+
+    print("masses")
+    laws = table([(0, 40_000), (400, 20_000)]), df4, wagon_drag
+    s = sample(80)
+    asked = [(s, v, q) for v, q in [(1601, 600), (200, 49), (200, 2001), (401, 600), (200, 50), (400, 2000), (0, 600)]]
+    bare, stop = train(("L", 1000, 400)), train(("L", 1000, 400))
+    stop.append(3000, 80, 0, 0, 1)
+    for s, v, q in asked + [(bare, 200, 600), (stop, 200, 600), (wagon, 200, 600)]:
+        print(f"mass {v} {q}: {answer('', s.mass, v, q, laws)}")
 
 
 def figures():
@@ -451,5 +533,29 @@ def makers():
         print(f"{label}: {'no break' if k is None else f'breaks at {k}'}, {outcome(table, points)}")
 
 
-{"inspection": inspection, "refusals": refusals, "figures": figures, "readings": readings,
+# ---- the program `mixtures`
+
+def mixtures():
+    s = train(("L", 1000, 400))
+    s.append(1500, 0, 0, 0, 0)
+    s.append(1500, 80, 0, 0, 0)
+    disc = rounded(lambda v: F(350_000))
+    electric = disc, df4, wagon_drag
+    friction, wagon = blend(cast_iron, composite, 3, 1), scale(wagon_drag, 95)
+    pull = lesser(table([(0, 40_000), (400, 20_000)]), adhesion(1000))
+    for vehicle, k, v, g, q in [(("W", 600, 200), 1, 600, 10, 600), (("W", 49, 0), 2, 1000, 7, 2001),
+                                (("W", 613, 170), 0, 1601, 5, 50)]:
+        print("mixed")
+        for told in [
+            lambda: outcome(s.couple, *vehicle),
+            lambda: outcome(s.stop, "F", 0, v, g),
+            lambda: outcome(s.brake, k, False),
+            lambda: outcome(s.stop, "P", 0, v, g, electric),
+            lambda: answer("speed ", s.speed, "combined", 0, g, (friction, df4, wagon)),
+            lambda: answer("mass ", s.mass, 150, q, (pull, quadratic(1_500_000, 20_000, 300), wagon)),
+        ]:
+            print(f"  {told()}")
+
+
+{"mixtures": mixtures, "inspection": inspection, "refusals": refusals, "figures": figures, "readings": readings,
  "makers": makers}[sys.argv[1]]()

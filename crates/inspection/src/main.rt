@@ -1,88 +1,110 @@
-// One train made up, inspected and asked for its stopping distance: every action is printed with its outcome, a refused
-// one with its number, and the sheet as its getters tell it after each edit.
+// One train made up, inspected, compared and sent off. What happens to it is performed in four histories: each call is printed with
+// its reply, a refused one with its number, and after each history the sheet as its getters tell it.
 #![tactic(auto)]
 
-mod actions;
+mod brakes;
 mod show;
+mod telling;
 
-use actions::{Call, ask, change};
-use laws::{Freight, FreightByHand, Passenger};
-use rules::{SectionFigures, StopQuestion, VehicleFigures};
+use brakes::{Inspected, Pulled, freight, freight_by_hand, passenger};
+use history::{Call, Entry};
+use report::{diesel, example_pull};
+use rules::{MassQuestion, Question, SectionFigures, SpeedQuestion, StopQuestion, VehicleFigures};
 use sheet::Sheet;
 use show::show_sheet;
 use std::io;
+use telling::tell_history;
 
 fn main(rt: HostRuntime) -> io::Result<()> {
     let mut sheet = Sheet::new(rt.alloc())?;
-    println!(rt; "new sheet")?;
+    println!(&rt; "new sheet")?;
     show_sheet(&rt, &sheet)?;
-    make_up(&rt, &mut sheet)?;
-    inspect(&rt, &mut sheet)?;
-    compare_brakes(&rt, &sheet)?;
-    send_off(&rt, &mut sheet)
+    let stock = diesel(example_pull());
+    make_up(&rt, &mut sheet, &stock)?;
+    inspect(&rt, &mut sheet, &stock)?;
+    compare(&rt, &mut sheet, &stock)?;
+    send_off(&rt, &mut sheet, &stock)
 }
 
 // The planner makes up the train and draws its line.
-fn make_up(rt: &HostRuntime, sheet: &mut Sheet) -> io::Result<()> {
-    for (letter, mass, pressure) in [('L', 1000, 400), ('W', 40, 10), ('W', 600, 200)] {
-        let figures = VehicleFigures::new(letter, mass, pressure);
-        change(rt, sheet, Call("couple", figures), |s| s.couple(figures))?;
-    }
-    for gradient in [0, 80] {
-        let figures = SectionFigures::straight(1500, gradient);
-        change(rt, sheet, Call("append", figures), |s| s.append(figures))?;
-    }
-    ask::<Freight>(rt, sheet, "freight", from_start(100, 10))
+fn make_up(rt: &HostRuntime, sheet: &mut Sheet, stock: &Pulled) -> io::Result<()> {
+    let mut calls = [
+        Entry::from(Call::Couple(VehicleFigures::new('L', 1000, 400))),
+        Entry::from(Call::Couple(VehicleFigures::new('W', 40, 10))),
+        Entry::from(Call::Couple(VehicleFigures::new('W', 600, 200))),
+        Entry::from(Call::Append(SectionFigures::straight(1500, 0))),
+        Entry::from(Call::Append(SectionFigures::straight(1500, 80))),
+        freight(stock, stop(0, 100, 10)),
+    ];
+    tell_history(rt, "made up", sheet, stock, &mut calls)
 }
 
 // The inspector cuts out brakes that did not hold, asks again, and restores them.
-fn inspect(rt: &HostRuntime, sheet: &mut Sheet) -> io::Result<()> {
-    cut_out(rt, sheet, 1)?;
-    ask::<Freight>(rt, sheet, "freight", from_start(100, 10))?;
-    cut_out(rt, sheet, 5)?;
-    ask::<Freight>(rt, sheet, "freight", StopQuestion::full_braking(2500, 100))?;
-    cut_out(rt, sheet, 0)?;
-    ask::<Freight>(rt, sheet, "freight", from_start(100, 10))?;
-    for k in [0, 1] {
-        change(rt, sheet, Call("restore", k), |s| s.restore(k))?;
-    }
-    ask::<Freight>(rt, sheet, "freight", from_start(100, 10))
+fn inspect(rt: &HostRuntime, sheet: &mut Sheet, stock: &Pulled) -> io::Result<()> {
+    let mut calls = [
+        Entry::from(Call::CutOut(1)),
+        freight(stock, stop(0, 100, 10)),
+        Entry::from(Call::CutOut(5)),
+        freight(stock, stop(2500, 100, 10)),
+        freight(stock, speed(0, 10)),
+        Entry::from(Call::CutOut(0)),
+        freight(stock, stop(0, 100, 10)),
+        freight(stock, speed(0, 10)),
+        Entry::from(Call::Restore(0)),
+        Entry::from(Call::Restore(1)),
+        freight(stock, stop(0, 100, 10)),
+    ];
+    tell_history(rt, "inspected", sheet, stock, &mut calls)
 }
 
-fn cut_out(rt: &HostRuntime, sheet: &mut Sheet, k: usize) -> io::Result<()> {
-    change(rt, sheet, Call("cut out", k), |s| s.cut_out(k))
-}
-
-// The planner compares factors and kinds of brake at a higher speed.
-fn compare_brakes(rt: &HostRuntime, sheet: &Sheet) -> io::Result<()> {
-    ask::<Freight>(rt, sheet, "freight", from_start(600, 10))?;
-    ask::<Freight>(rt, sheet, "freight", from_start(600, 7))?;
-    ask::<Passenger>(rt, sheet, "passenger", from_start(600, 10))?;
-    ask::<FreightByHand>(rt, sheet, "freight by hand", from_start(600, 10))
+// The planner compares factors and kinds of brake, and asks how heavy the train may be.
+fn compare(rt: &HostRuntime, sheet: &mut Sheet, stock: &Pulled) -> io::Result<()> {
+    let mut calls = [
+        freight(stock, stop(0, 600, 10)),
+        freight(stock, stop(0, 600, 7)),
+        passenger(stock, stop(0, 600, 10)),
+        freight_by_hand(stock, stop(0, 600, 10)),
+        freight(stock, speed(0, 10)),
+        freight(stock, speed(0, 7)),
+        passenger(stock, speed(0, 10)),
+        freight_by_hand(stock, speed(0, 10)),
+        freight(stock, mass(200, 600)),
+        freight(stock, mass(400, 600)),
+        freight(stock, mass(401, 600)),
+    ];
+    tell_history(rt, "compared", sheet, stock, &mut calls)
 }
 
 // The train gets a longer braking distance, leaves its wagon behind, and its line is lifted.
-fn send_off(rt: &HostRuntime, sheet: &mut Sheet) -> io::Result<()> {
-    for metres in [300, 1500] {
-        change(rt, sheet, Call("set braking distance", metres), |s| {
-            s.set_distance(metres)
-        })?;
-    }
-    ask::<Freight>(rt, sheet, "freight", from_start(600, 7))?;
-    change(rt, sheet, "uncouple", |s| s.uncouple())?;
-    ask::<Freight>(rt, sheet, "freight", from_start(600, 7))?;
-    change(rt, sheet, "lift", |s| {
-        s.lift();
-        Ok(())
-    })?;
-    ask::<Freight>(rt, sheet, "freight", from_start(600, 7))
+fn send_off(rt: &HostRuntime, sheet: &mut Sheet, stock: &Pulled) -> io::Result<()> {
+    let mut calls = [
+        Entry::from(Call::SetDistance(300)),
+        Entry::from(Call::SetDistance(1500)),
+        freight(stock, stop(0, 600, 7)),
+        freight(stock, speed(0, 7)),
+        Entry::from(Call::Uncouple),
+        freight(stock, stop(0, 600, 7)),
+        freight(stock, speed(0, 7)),
+        Entry::from(Call::Lift),
+        freight(stock, stop(0, 600, 7)),
+        freight(stock, speed(0, 7)),
+        freight(stock, mass(200, 600)),
+    ];
+    tell_history(rt, "sent off", sheet, stock, &mut calls)
 }
 
-// A stop from the start of the line.
-fn from_start(speed: u32, factor: u32) -> StopQuestion {
-    StopQuestion {
-        place: 0,
+fn stop(place: u32, speed: u32, factor: u32) -> Question {
+    Question::Stop(StopQuestion {
+        place,
         speed,
         factor,
-    }
+    })
+}
+
+fn speed(place: u32, factor: u32) -> Question {
+    Question::Speed(SpeedQuestion { place, factor })
+}
+
+fn mass(speed: u32, gross: u32) -> Question {
+    Question::Mass(MassQuestion { speed, gross })
 }

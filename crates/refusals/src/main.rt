@@ -2,6 +2,8 @@
 #![tactic(auto)]
 
 mod lines;
+mod masses;
+mod speeds;
 mod stops;
 mod trains;
 
@@ -17,5 +19,7 @@ fn main(rt: HostRuntime) -> io::Result<()> {
     println!(&rt; "laws")?;
     tell_quadratic_drags(&rt)?;
     stops::out_of_range(&rt)?;
-    stops::weak_brakes(&rt)
+    stops::weak_brakes(&rt)?;
+    speeds::speeds(&rt)?;
+    masses::masses(&rt)
 }

@@ -1,7 +1,7 @@
 use laws::{Freight, NoPull};
 use reckoning::stop;
 use report::{Outcome, diesel, example_sheet, tell_stop};
-use rules::StopQuestion;
+use rules::{StopFigures, StopQuestion};
 use std::io;
 
 /// Stop questions out of their ranges, and beyond the line.
@@ -21,8 +21,9 @@ pub fn out_of_range(rt: &HostRuntime) -> io::Result<()> {
             speed,
             factor,
         };
-        let answer = Outcome(stop::<Freight, _>(&sheet, &diesel(NoPull), question));
-        println!(rt; "stop {place} {speed} {factor}: {answer}")?;
+        let answer = stop::<Freight, _>(&sheet, &diesel(NoPull), question);
+        let told = Outcome(answer.map(|figures| StopFigures::from(figures)));
+        println!(rt; "stop {place} {speed} {factor}: {told}")?;
     }
     Ok(())
 }
