@@ -32,7 +32,7 @@ module _ (s : Stock) (b : Book) (q : MassQuestion) (h : Hauler) (none : first_no
   -- the hauler holds what the rules hold cautiously
   holds_too : (x : ℕ) → holds_over h b.sections x ≡ holds_cautiously s b q x
   unfolding holds_cautiously
-  holds_too x = rw (is.count, is.mass, is.moving, is.starting) refl
+  holds_too x = rw (is.count, is.mass, is.moves, is.starts) refl
 
   pub figure : (fs : List SectionFigures) (r : Result ℕ Refusal) → fs ≡ b.sections → IsLoad (holds_over h fs) r → mass_reply r ≡ asked_for_mass s b q
   figure fs r line load =

@@ -29,10 +29,10 @@ holds_over h fs x = on_every (λ f. holds_by h f x) fs
 pub record IsHauler (s : Stock) (b : Book) (q : MassQuestion) (h : Hauler) : Type 0 where
   pub count : h.train.locomotives ≡ locomotives b.vehicles
   pub mass : h.train.hauling ≡ hauling_mass b.vehicles
-  pub moving : h.moving ≡ cautious s q.gross (moving q.speed)
-  pub starting : h.starting ≡ cautious s q.gross starting
+  pub moves : h.moving ≡ cautious s q.gross (moving q.speed)
+  pub starts : h.starting ≡ cautious s q.gross starting
 
 -- a hauler that is asked for: refused by the first "no", else as the book has it
-abbrev pub Asked : Stock → Book → MassQuestion → Result Hauler Refusal → Type 0
-Asked s b q (Ok h) = (first_no (hauling b q []) ≡ None) × IsHauler s b q h
-Asked s b q (Err e) = first_no (hauling b q []) ≡ Some (number_of e)
+abbrev pub IsAskedFor : Stock → Book → MassQuestion → Result Hauler Refusal → Type 0
+IsAskedFor s b q (Ok h) = (first_no (hauling b q []) ≡ None) × IsHauler s b q h
+IsAskedFor s b q (Err e) = first_no (hauling b q []) ≡ Some (number_of e)

@@ -18,7 +18,7 @@ pub(crate) struct Hauler {
 }
 
 impl Hauler {
-    ghost use Rattle.haulage.specs.Haulers.{Asked, holds_by, holds_over};
+    ghost use Rattle.haulage.specs.Haulers.{IsAskedFor, holds_by, holds_over};
 
     // The train of a sheet by the laws of a stock; refused where the question is out of its range, or there is nothing to haul with
     // or over.
@@ -27,7 +27,7 @@ impl Hauler {
         stock: &S,
         question: MassQuestion,
     ) -> Result<Hauler, Refusal>
-        ensures { Asked (S.meaning stock.now) sheet.now question result }
+        ensures { IsAskedFor (S.meaning stock.now) sheet.now question result }
     {
         let v = Speed::from_tenths(question.speed).ok_or(Refusal::QuestionOutOfRange)?;
         let gross = Gross::from_tenths(question.gross).ok_or(Refusal::QuestionOutOfRange)?;

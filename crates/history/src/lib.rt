@@ -11,6 +11,6 @@ pub mod reply;
 pub use asked::Asked;
 pub use call::{Call, Entry};
 pub use either::Either;
-pub use histories::perform;
+pub use histories::{perform, perform_anew};
 pub use inquiry::Inquiry;
 pub use reply::Reply;

@@ -7,7 +7,7 @@ mod show;
 mod telling;
 
 use brakes::{Inspected, Pulled, freight, freight_by_hand, passenger};
-use history::{Call, Entry};
+use history::{Call, Entry, perform, perform_anew};
 use report::{diesel, example_pull};
 use rules::{MassQuestion, Question, SectionFigures, SpeedQuestion, StopQuestion, VehicleFigures};
 use sheet::Sheet;
@@ -36,7 +36,8 @@ fn make_up(rt: &HostRuntime, sheet: &mut Sheet, stock: &Pulled) -> io::Result<()
         Entry::from(Call::Append(SectionFigures::straight(1500, 80))),
         freight(stock, stop(0, 100, 10)),
     ];
-    tell_history(rt, "made up", sheet, stock, &mut calls)
+    perform_anew(sheet, &mut calls);
+    tell_history(rt, "made up", sheet, stock, &calls)
 }
 
 // The inspector cuts out brakes that did not hold, asks again, and restores them.
@@ -54,7 +55,8 @@ fn inspect(rt: &HostRuntime, sheet: &mut Sheet, stock: &Pulled) -> io::Result<()
         Entry::from(Call::Restore(1)),
         freight(stock, stop(0, 100, 10)),
     ];
-    tell_history(rt, "inspected", sheet, stock, &mut calls)
+    perform(sheet, &mut calls);
+    tell_history(rt, "inspected", sheet, stock, &calls)
 }
 
 // The planner compares factors and kinds of brake, and asks how heavy the train may be.
@@ -72,7 +74,8 @@ fn compare(rt: &HostRuntime, sheet: &mut Sheet, stock: &Pulled) -> io::Result<()
         freight(stock, mass(400, 600)),
         freight(stock, mass(401, 600)),
     ];
-    tell_history(rt, "compared", sheet, stock, &mut calls)
+    perform(sheet, &mut calls);
+    tell_history(rt, "compared", sheet, stock, &calls)
 }
 
 // The train gets a longer braking distance, leaves its wagon behind, and its line is lifted.
@@ -90,7 +93,8 @@ fn send_off(rt: &HostRuntime, sheet: &mut Sheet, stock: &Pulled) -> io::Result<(
         freight(stock, speed(0, 7)),
         freight(stock, mass(200, 600)),
     ];
-    tell_history(rt, "sent off", sheet, stock, &mut calls)
+    perform(sheet, &mut calls);
+    tell_history(rt, "sent off", sheet, stock, &calls)
 }
 
 fn stop(place: u32, speed: u32, factor: u32) -> Question {

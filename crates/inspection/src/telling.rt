@@ -1,19 +1,18 @@
 use crate::brakes::{Inspected, Pulled};
 use crate::show::show_sheet;
-use history::{Entry, Reply, perform};
+use history::{Entry, Reply};
 use report::{StopWithAllowance, tell};
 use sheet::Sheet;
 use std::io;
 
-/// Performs a history, and tells each call with its reply and the sheet that is left.
+/// Tells a history that was performed: each call with its reply, and the sheet that is left.
 pub fn tell_history(
     rt: &HostRuntime,
     name: &str,
-    sheet: &mut Sheet,
+    sheet: &Sheet,
     stock: &Pulled,
-    calls: &mut [Entry<Inspected<'_>>],
+    calls: &[Entry<Inspected<'_>>],
 ) -> io::Result<()> {
-    perform(sheet, calls);
     println!(rt; "{name}")?;
     for entry in calls.iter() {
         tell_entry(rt, stock, entry)?;

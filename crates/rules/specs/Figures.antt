@@ -9,7 +9,7 @@ use Rattle.rules.specs.Formulas.{cast_iron, composite, adhesion, wagon_drag, df4
 use Rattle.rules.specs.Layers.{blend_down, blend_up}
 use Rattle.rules.specs.Book.{cut_out}
 use Rattle.rules.specs.Grade.{low_grade, high_grade}
-use Rattle.rules.specs.Refusals.{stops, hauls, refused}
+use Rattle.rules.specs.Refusals.{stops, runs, hauls, refused}
 use Rattle.rules.specs.Kind.{freight}
 use Rattle.rules.specs.Stop.{Approach, approach_at, stop_window}
 use Rattle.rules.specs.Exact.{exact_sum}
@@ -17,7 +17,7 @@ use Rattle.rules.specs.Finer.{finer_distance}
 use Rattle.rules.specs.Promises.{promised_surplus}
 use Rattle.rules.specs.Allowance.{allowance}
 use Rattle.rules.specs.Given.{straight_section}
-use Rattle.rules.specs.Sample.{long_section, example_book, full_pull, example_pull, example_stock, example_stop, example_mass}
+use Rattle.rules.specs.Sample.{long_section, example_book, full_pull, example_pull, example_stock, example_stop, example_speed, example_mass}
 use Rattle.rules.specs.Examples.{stretch, example_approach, five_parts}
 
 -- x is rounded down to lo and up to hi
@@ -70,6 +70,9 @@ pub record CheckedFigures : Type 0 where
   pub surplus_on_the_level : (pull : Falling) → micrometres (promised_surplus freight (level_approach pull) level_window 100 level_stop) ≡ pos 3677
   pub allowance_on_the_level : allowance 5 level_stop ≡ 4
   pub finer_on_a_fall : micrometres (finer_distance freight (example_approach (negsuc 99)) 250 (five_parts (stretch (negsuc 99)) (stretch (pos 0)))) ≡ pos 90194290
+  -- how fast that train may go on the level and on a fall of 10 per mille
+  pub fast_on_the_level : (pull : Falling) → example_speed pull (example_book (pos 0)) ≡ runs 900
+  pub fast_on_a_fall : (pull : Falling) → example_speed pull (example_book (negsuc 99)) ≡ runs 800
   -- what the locomotive hauls on a climb of 8 per mille: by its whole pull, there from a stand too, and by nine tenths of it
   pub hauled_on_a_climb : example_mass full_pull (climb 0 ∷ []) ≡ hauls 29000
   pub hauled_from_a_stop : example_mass full_pull (climb 1 ∷ []) ≡ hauls 28000

@@ -107,7 +107,7 @@ Answers k s b (Stop q) r =
 Answers k s b (Speed q) r = (v : ℕ) × (r ≡ runs v) × IsGreatestSpeed k s b q v
 Answers k s b (Mass q) r = (x : ℕ) × (r ≡ hauls x) × IsGreatestMass s b q x
 
--- a call that no question refuses, from the book b to the book c: an edit passes and does what it is for; a question is answered and
+-- a call that no numbered question refuses, from the book b to the book c: an edit passes and does what it is for; a question is answered and
 -- changes nothing
 abbrev pub Granted : Book → Event → Reply → Book → Type 0
 Granted b (couple f) r c = (r ≡ passed) × (c ≡ coupled b f)

@@ -12,6 +12,7 @@ use Rattle.rules.specs.Kind.{freight}
 use Rattle.rules.specs.Book.{Book, Vehicle, book, vehicle, appended}
 use Rattle.rules.specs.Questions.{appending, asked_to_stop}
 use Rattle.rules.specs.Mass.{asked_for_mass}
+use Rattle.rules.specs.Speed.{asked_for_speed}
 use Rattle.rules.specs.Refusals.{Reply, first_no, unless}
 
 abbrev pub example_train : List Vehicle
@@ -47,6 +48,10 @@ example_stock pull = stock (rounded_falling cast_iron) pull (rounded_drag df4) (
 -- the stop that is asked for
 abbrev pub example_stop : Falling → Book → ℕ → Reply
 example_stop pull b speed = asked_to_stop freight (example_stock pull) b 0 speed 10
+
+-- the speed that is asked for
+abbrev pub example_speed : Falling → Book → Reply
+example_speed pull b = asked_for_speed freight (example_stock pull) b (record { place = 0; factor = 10 })
 
 -- the mass that is asked for over some sections, at 20 km/h and wagons of 60 t
 abbrev pub example_mass : Falling → List SectionFigures → Reply

@@ -42,8 +42,8 @@ StopsWithin l r = (d m n : ℕ) × (r ≡ stops d m n) × (d ≤ 1000 * l)
 abbrev pub IsRefused : Reply → Type 0
 IsRefused r = (n : ℕ) × (r ≡ refused n)
 
--- v is a multiple of 50 up to 1,600; at it and at every lower multiple the stop is answered within the braking distance, and at
--- the next it is refused, unless that is past 1,600
+-- v is a multiple of 50 up to 1,600; the stop from it and from each multiple under it is answered within the braking distance, and
+-- the one from the next is refused, where that is not past 1,600
 pub record IsGreatestSpeed (k : Kind) (s : Stock) (b : Book) (q : SpeedQuestion) (v : ℕ) : Type 0 where
   pub multiple : (j : ℕ) × (v ≡ 50 * j)
   pub most : v ≤ 1600
