@@ -1,5 +1,5 @@
 -- Six things of a list, one by one.
-use Rattle.std.proofs.Common.{◌≡◌, ℕ, List, [], ◌∷◌, map, length, get_or, refl, arith}
+use Rattle.std.proofs.Common.{◌≡◌, List, [], ◌∷◌, map, length, get_or, refl, arith}
 
 pub map_of_six : {X Y : Type 0} (g : X → Y) (xs : List X) (a b c d e f : X) → length xs ≡ 6
     → g (get_or xs 0 a) ∷ g (get_or xs 1 b) ∷ g (get_or xs 2 c) ∷ g (get_or xs 3 d) ∷ g (get_or xs 4 e) ∷ g (get_or xs 5 f) ∷ [] ≡ map g xs
