@@ -1,7 +1,7 @@
 -- The number by which each refusal is told, and how numbered questions decide.
 use Rattle.std.specs.Prelude.{◌≡◌, ℕ, ◌⊎◌, Bool, true, false, cond, List, [], ◌∷◌, ◌++◌, All, Some, None, Ok, Err, codes, decimal, Option, Result}
 use Rattle.rules.specs.declared.refusal.Refusal.{Refusal}
-use Rattle.rules.specs.declared.refusal.Refusal.TheVariants.{UnlawfulVehicle, TrainFull, NoSuchVehicle, UnlawfulSection, LineFull, UnlawfulBrakingDistance, QuestionOutOfRange, NoLocomotive, LineTooShort, WeakBrake, WeakStep, StopsTooFar, HaulsNothing, UnlawfulLaw}
+use Rattle.rules.specs.declared.refusal.Refusal.TheVariants.{UnlawfulVehicle, TrainFull, NoSuchVehicle, UnlawfulSection, LineFull, UnlawfulBrakingDistance, QuestionOutOfRange, NoLocomotive, LineTooShort, WeakBrake, WeakStep, StopsTooFar, HaulsNothing, UnlawfulLaw, MalformedLine, WrongCount, ShortBuffer}
 
 abbrev pub number_of : Refusal → ℕ
 number_of UnlawfulVehicle = 1
@@ -18,6 +18,9 @@ number_of WeakStep = 11
 number_of StopsTooFar = 12
 number_of HaulsNothing = 13
 number_of UnlawfulLaw = 14
+number_of MalformedLine = 15
+number_of WrongCount = 16
+number_of ShortBuffer = 17
 
 -- the number that a result tells: none where the call was not refused
 abbrev pub told : {X : Type 0} → Result X Refusal → Option ℕ

@@ -35,6 +35,12 @@ pub enum Refusal {
     HaulsNothing = 13,
     /// The figures of a law or a layer are out of their range.
     UnlawfulLaw = 14,
+    /// A line of a run file is not of its form.
+    MalformedLine = 15,
+    /// A count of a run file is out of its limits, a line is missing or left over, or the file is too long.
+    WrongCount = 16,
+    /// A buffer has fewer than 64 bytes.
+    ShortBuffer = 17,
 }
 
 impl Refusal {
