@@ -23,3 +23,4 @@ pub mod Examples
 pub mod Figures
 pub mod Printed
 pub mod Given
+pub mod Faults

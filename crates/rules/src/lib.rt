@@ -2,10 +2,12 @@
 // refusals that every crate above shares stand here.
 #![tactic(auto)]
 
+pub mod fault;
 pub mod figures;
 pub mod refusal;
 pub mod theorems;
 
+pub use fault::{Fault, Layer};
 pub use figures::{
     MassQuestion, PointFigures, Question, SectionFigures, SpeedQuestion, StopFigures, StopQuestion,
     VehicleFigures,
