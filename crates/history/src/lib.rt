@@ -6,6 +6,7 @@ pub mod call;
 pub mod either;
 pub mod histories;
 pub mod inquiry;
+pub mod lettered;
 pub mod reply;
 
 pub use asked::Asked;
@@ -13,4 +14,5 @@ pub use call::{Call, Entry};
 pub use either::Either;
 pub use histories::{perform, perform_anew};
 pub use inquiry::Inquiry;
+pub use lettered::Lettered;
 pub use reply::Reply;

@@ -1,4 +1,4 @@
-ghost use Rattle.std.specs.Prelude.{◌≡◌, ◌≤◌, length, slice_get, IfOk};
+ghost use Rattle.std.specs.Prelude.{◌≡◌, ◌≤◌, [], length, slice_get, IfOk};
 ghost use Rattle.rules.specs.Book.{Book, book, new_book, coupled, uncoupled, cut_out, restored, appended, lifted, with_distance, OnlyBrakeOf};
 ghost use Rattle.rules.specs.Questions.{coupling, vehicle_there, appending, setting_distance};
 ghost use Rattle.rules.specs.Refusals.{told, first_no, unless};
@@ -46,7 +46,7 @@ impl Sheet {
     pub fn clear(&mut self)
         ensures { self.new ≡ new_book }
     {
-        self.consist.clear();
+        self.uncouple_all();
         self.lift();
         self.distance = NEW_DISTANCE;
     }
@@ -65,6 +65,13 @@ impl Sheet {
         ensures held { self.new ≡ unless (told result) (uncoupled self.old) self.old }
     {
         self.consist.uncouple()
+    }
+
+    /// Uncouples all vehicles.
+    pub fn uncouple_all(&mut self)
+        ensures { self.new ≡ book [] self.old.sections self.old.distance }
+    {
+        self.consist.clear();
     }
 
     // Cutting out and restoring are two calls, as the inspector knows them, and either is a line over one of the consist.
