@@ -28,15 +28,15 @@ pub fn first_break(points: &[PointFigures]) -> Option<usize>
     None
 }
 
-/// Whether a table can begin with p.
-pub fn can_begin(p: PointFigures) -> bool
+// Whether a table can begin with p.
+fn can_begin(p: PointFigures) -> bool
     ensures { result ≡ may_begin p }
 {
     p.speed == 0 && p.value <= 1_000_000
 }
 
-/// Whether n can come next after p, the last of k points.
-pub fn can_come_next(k: usize, p: PointFigures, n: PointFigures) -> bool
+// Whether n can come next after p, the last of k points.
+fn can_come_next(k: usize, p: PointFigures, n: PointFigures) -> bool
     ensures { result ≡ nat_lt k 16 && may_follow p n }
 {
     k < MOST_POINTS && p.speed < n.speed && n.speed <= 1600 && n.value <= p.value

@@ -4,5 +4,5 @@
 pub mod breaks;
 pub mod table;
 
-pub use breaks::{MOST_POINTS, can_begin, can_come_next, first_break};
+pub use breaks::{MOST_POINTS, first_break};
 pub use table::PullTable;
