@@ -1,0 +1,3 @@
+pub mod Written
+pub mod Parted
+pub mod Growth

@@ -1,0 +1,34 @@
+-- How a number stands in a field.
+use Rattle.std.specs.Prelude.{◌≡◌, ℕ, suc, ◌^◌, ◌<◌, List, ◌∷◌, ◌++◌, ℤ, pos, negsuc, Ok, Err, decimal, Result, ◌≢◌}
+use Rattle.std.specs.Fmt.{signed_decimal}
+use Rattle.std.specs.List.{AllByRecursion as All}
+
+-- n is written with at most seven digits
+abbrev pub Short : ℕ → Type 0
+Short n = n < 10 ^ 7
+
+-- field is the numeral of n: its decimal digits, without a leading zero
+abbrev pub Numeral : List ℕ → ℕ → Type 0
+Numeral field n = Short n × (field ≡ decimal n)
+
+abbrev pub ShortSigned : ℤ → Type 0
+ShortSigned (pos n) = Short n
+ShortSigned (negsuc n) = Short (suc n)
+
+-- the same with a minus before the digits of a number below 0
+abbrev pub SignedNumeral : List ℕ → ℤ → Type 0
+SignedNumeral field z = ShortSigned z × (field ≡ signed_decimal z)
+
+-- what was read is what is meant, or there is an error and nothing is meant
+abbrev pub Reads : {X E : Type 0} → (X → Type 0) → Result X E → Type 0
+Reads Means (Ok x) = Means x
+Reads {X = X} Means (Err e) = (x : X) → Means x → ⊥
+
+-- mark does not stand in text
+abbrev pub Lacks : ℕ → List ℕ → Type 0
+Lacks mark text = All (λ b. b ≢ mark) text
+
+-- mark first stands in text between front and rest
+pub record Cut (mark : ℕ) (text front rest : List ℕ) : Type 0 where
+  pub whole : text ≡ front ++ mark ∷ rest
+  pub first : Lacks mark front

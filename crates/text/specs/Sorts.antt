@@ -1,0 +1,91 @@
+-- Sections of a text: a heading with a count, and then that many lines of one sort.
+use Rattle.std.specs.Prelude.{◌≡◌, ℕ, ◌+◌, ◌<◌, ◌≤◌, ◌⊎◌, List, [], ◌∷◌, ◌++◌, length, Ok, Err, decimal, Result}
+use Rattle.std.specs.List.{flat_map}
+use Rattle.rules.specs.declared.refusal.Refusal.{Refusal}
+use Rattle.rules.specs.declared.refusal.Refusal.TheVariants.{MalformedLine, WrongCount}
+use Rattle.text.specs.Numerals.{Short, Cut}
+use Rattle.text.specs.Fields.{spaced}
+use Rattle.text.specs.Texts.{NoLine}
+
+-- a sort of line: the name in its heading, the least and the greatest count, the line that an entry is written as, the entries
+-- that can be written, those that are lawful after others, and the refusal of one that is not
+pub record Sort (X : Type 0) : Type 1 where
+  pub name : List ℕ
+  pub least : ℕ
+  pub most : ℕ
+  pub written : X → List ℕ
+  pub Formed : X → Type 0
+  pub Lawful : List X → X → Type 0
+  pub refusal : Refusal
+
+-- a count that a heading may tell
+abbrev pub Allowed : {X : Type 0} → Sort X → ℕ → Type 0
+Allowed s n = (s.least ≤ n) × (n ≤ s.most)
+
+-- the line of a heading: the name, a space and the count
+abbrev pub heading : List ℕ → ℕ → List ℕ
+heading name n = spaced (name ∷ decimal n ∷ [])
+
+-- line is the name, a space and rest
+abbrev pub NamedBefore : {X : Type 0} → Sort X → List ℕ → List ℕ → Type 0
+NamedBefore s line rest = line ≡ s.name ++ 32 ∷ rest
+
+-- headings are a sort too: one says how many entries follow, and a count that is not allowed is refused
+abbrev pub headings : {X : Type 0} → Sort X → Sort ℕ
+headings s = record { name = []; least = 0; most = 9999999; written = heading s.name; Formed = Short; Lawful = λ _ n. Allowed s n; refusal = WrongCount }
+
+module _ {X : Type 0} (s : Sort X) where
+  -- a line that says x
+  abbrev pub Says : List ℕ → X → Type 0
+  Says line x = s.Formed x × (line ≡ s.written x)
+
+  -- the next line of text says x, which is lawful after those before, and rest follows
+  abbrev pub Next : List X → List ℕ → X → List ℕ → Type 0
+  Next before text x rest = s.Formed x × s.Lawful before x × (text ≡ s.written x ++ 10 ∷ rest)
+
+  -- a whole line stands where an entry is due after those before: it says none, or one that is not lawful
+  abbrev pub Bad : List X → List ℕ → Refusal → Type 0
+  Bad before line why = ((why ≡ MalformedLine) × ((x : X) → Says line x → ⊥)) ⊎ ((why ≡ s.refusal) × ((x : X) × Says line x × (s.Lawful before x → ⊥)))
+
+  -- the next line of text is missing or is at fault
+  abbrev pub NextFault : List X → List ℕ → Refusal → Type 0
+  NextFault before text why = NoLine text why ⊎ ((line : List ℕ) × (rest : List ℕ) × Cut 10 text line rest × Bad before line why)
+
+  -- the lines of entries, each ended by a line feed
+  abbrev pub lines : List X → List ℕ
+  lines xs = flat_map (λ x. s.written x ++ 10 ∷ []) xs
+
+  -- each of these entries can be written, and is lawful after those before it
+  abbrev pub Proper : List X → List X → Type 0
+  Proper before [] = Unit {0}
+  Proper before (x ∷ xs) = s.Formed x × s.Lawful before x × Proper (before ++ x ∷ []) xs
+
+  -- the text begins with the lines of proper entries, and rest follows
+  abbrev pub Begins : List ℕ → List X → List ℕ → Type 0
+  Begins text xs rest = Proper [] xs × (text ≡ lines xs ++ rest)
+
+  -- the heading with the count, and the entries
+  abbrev pub section : List X → List ℕ
+  section xs = heading s.name (length xs) ++ 10 ∷ lines xs
+
+  -- as many entries as there may be, each proper
+  abbrev pub Good : List X → Type 0
+  Good xs = Allowed s (length xs) × Proper [] xs
+
+  -- the text begins with a section that has nothing wrong, and rest follows
+  abbrev pub Read : List ℕ → List X → List ℕ → Type 0
+  Read text xs rest = Good xs × (text ≡ section xs ++ rest)
+
+  -- where n entries are due the text begins with fewer, and the line after them is at fault
+  abbrev pub EntriesFault : List ℕ → ℕ → ℕ → Refusal → Type 0
+  EntriesFault text n right why = (done : List X) × (rest : List ℕ) × Begins text done rest × NextFault done rest why × (length done < n) × (right ≡ length done)
+
+  -- what a store does with an entry: it holds it behind the others, or refuses it and is unchanged, as the entry is not lawful
+  -- or there are as many as there may be
+  abbrev pub Stored : {D : Type 0} → (D → List X) → D → X → Result (Unit {0}) Refusal → D → Type 0
+  Stored held old x (Ok _) new = s.Lawful (held old) x × (held new ≡ held old ++ x ∷ [])
+  Stored held old x (Err e) new = (new ≡ old) × (((e ≡ s.refusal) × (s.Lawful (held old) x → ⊥)) ⊎ (s.most ≤ length (held old)))
+
+-- the text begins with `right` lines of a section that have nothing wrong, and the next is at fault: the heading, or an entry
+abbrev pub Wrong : {X : Type 0} → Sort X → List ℕ → ℕ → Refusal → Type 0
+Wrong s text right why = ((right ≡ 0) × NextFault (headings s) [] text why) ⊎ ((n : ℕ) × (rest : List ℕ) × (k : ℕ) × Next (headings s) [] text n rest × EntriesFault s rest n k why × (right ≡ k + 1))

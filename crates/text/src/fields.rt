@@ -1,0 +1,80 @@
+ghost use Rattle.std.specs.Prelude.{◌≡◌, ℕ, List, ℤ, MatchOption, MatchResult};
+ghost use Rattle.text.specs.Numerals.{Reads, Lacks, Cut};
+ghost use Rattle.text.specs.Fields.{Leads, LeadsSigned, Two, Three, flag};
+
+use crate::numbers::{Malformed, number, signed_number};
+
+// What stands before the first `mark`, and what stands after it.
+pub(crate) fn cut(text: &[u8], mark: u8) -> Option<(&[u8], &[u8])>
+    ensures { MatchOption result (Lacks mark text.now) (λ p. Cut mark text.now p.0.now p.1.now) }
+{
+    for (i, b) in text.iter().enumerate() {
+        if *b == mark {
+            return Some((&text[..i], &text[i + 1..]));
+        }
+    }
+    None
+}
+
+/// A number with the space after it, and what follows.
+pub fn leading_number(text: &[u8]) -> Result<(u32, &[u8]), Malformed>
+    ensures { MatchResult result (λ p. Leads text.now p.0 p.1.now) (λ _. (n : ℕ) (rest : List ℕ) → Leads text.now n rest → ⊥) }
+{
+    let Some((field, rest)) = cut(text, b' ') else {
+        return Err(Malformed);
+    };
+    let Ok(n) = number(field) else {
+        return Err(Malformed);
+    };
+    Ok((n, rest))
+}
+
+/// A signed number with the space after it, and what follows.
+pub fn leading_signed(text: &[u8]) -> Result<(i32, &[u8]), Malformed>
+    ensures { MatchResult result (λ p. LeadsSigned text.now p.0 p.1.now) (λ _. (z : ℤ) (rest : List ℕ) → LeadsSigned text.now z rest → ⊥) }
+{
+    let Some((field, rest)) = cut(text, b' ') else {
+        return Err(Malformed);
+    };
+    let Ok(z) = signed_number(field) else {
+        return Err(Malformed);
+    };
+    Ok((z, rest))
+}
+
+/// Two numbers.
+pub fn pair(text: &[u8]) -> Result<(u32, u32), Malformed>
+    ensures { Reads (Two text.now) result }
+{
+    let Ok((first, rest)) = leading_number(text) else {
+        return Err(Malformed);
+    };
+    let Ok(second) = number(rest) else {
+        return Err(Malformed);
+    };
+    Ok((first, second))
+}
+
+/// Three numbers.
+pub fn triple(text: &[u8]) -> Result<(u32, u32, u32), Malformed>
+    ensures { Reads (Three text.now) result }
+{
+    let Ok((first, rest)) = leading_number(text) else {
+        return Err(Malformed);
+    };
+    let Ok((second, third)) = pair(rest) else {
+        return Err(Malformed);
+    };
+    Ok((first, second, third))
+}
+
+/// What a field of 1 or 0 says: 1 is yes.
+pub fn switch(field: &[u8]) -> Result<bool, Malformed>
+    ensures { Reads (λ b. field.now ≡ flag b) result }
+{
+    match field {
+        [b'0'] => Ok(false),
+        [b'1'] => Ok(true),
+        _ => Err(Malformed),
+    }
+}

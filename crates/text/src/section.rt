@@ -1,0 +1,75 @@
+ghost use Rattle.std.specs.Prelude.{◌≡◌, ℕ, ◌+◌, ◌<◌, ◌≤◌, [], ◌∷◌, ◌++◌, length, MatchResult};
+ghost use Rattle.text.specs.Sorts.{headings, Next, NextFault, Begins, EntriesFault, Read, Wrong};
+
+use crate::entry::{Entry, Store};
+use crate::numbers::number;
+use crate::text::Text;
+use rules::{Fault, Refusal};
+
+impl<'a> Text<'a> {
+    /// Reads a section into a store that is cleared first: a heading, and as many entries as it tells. The first line at fault
+    /// ends the reading.
+    pub fn section<X: Entry, D: Store<X>>(&mut self, into: &mut D) -> Result<(), Fault>
+        ensures read { MatchResult result
+            (λ _. Read X.sort self.old.rest (D.held into.new) self.new.rest × (self.new.line ≡ self.old.line + (length (D.held into.new) + 1)))
+            (λ f. (right : ℕ) × Wrong X.sort self.old.rest right f.refusal × (f.line ≡ self.old.line + (right + 1))) }
+        ensures others { D.emptied into.new ≡ D.emptied into.old }
+    {
+        into.clear();
+        let count = self.count::<X>()?;
+        self.entries(count, into)
+    }
+
+    // The count on the heading's line.
+    fn count<X: Entry>(&mut self) -> Result<u32, Fault>
+        ensures { MatchResult result
+            (λ n. Next (headings X.sort) [] self.old.rest n self.new.rest × (self.new.line ≡ self.old.line + 1))
+            (λ f. NextFault (headings X.sort) [] self.old.rest f.refusal × (f.line ≡ self.old.line + 1)) }
+    {
+        let line = self.next_line()?;
+        let Some(rest) = X::after_name(line) else {
+            return Err(self.fault(Refusal::MalformedLine));
+        };
+        let Ok(count) = number(rest) else {
+            return Err(self.fault(Refusal::MalformedLine));
+        };
+        let (least, most) = X::limits();
+        if count < least || most < count {
+            return Err(self.fault(Refusal::WrongCount));
+        }
+        Ok(count)
+    }
+
+    // As many entries as are due, into a store without any.
+    fn entries<X: Entry, D: Store<X>>(&mut self, due: u32, into: &mut D) -> Result<(), Fault>
+        requires none { D.held into.old ≡ [] }
+        requires few { due ≤ X.sort.most }
+        ensures read { MatchResult result
+            (λ _. (length (D.held into.new) ≡ due) × Begins X.sort self.old.rest (D.held into.new) self.new.rest × (self.new.line ≡ self.old.line + due))
+            (λ f. (right : ℕ) × EntriesFault X.sort self.old.rest due right f.refusal × (f.line ≡ self.old.line + (right + 1))) }
+        ensures others { D.emptied into.new ≡ D.emptied into.old }
+    {
+        for _ in 0..due {
+            self.entry::<X, D>(into)?;
+        }
+        Ok(())
+    }
+
+    // The entry on the next line, behind those in the store.
+    fn entry<X: Entry, D: Store<X>>(&mut self, into: &mut D) -> Result<(), Fault>
+        requires few { length (D.held into.old) < X.sort.most }
+        ensures read { MatchResult result
+            (λ _. (x : X) × Next X.sort (D.held into.old) self.old.rest x self.new.rest × (D.held into.new ≡ D.held into.old ++ x ∷ []) × (self.new.line ≡ self.old.line + 1))
+            (λ f. NextFault X.sort (D.held into.old) self.old.rest f.refusal × (f.line ≡ self.old.line + 1)) }
+        ensures others { D.emptied into.new ≡ D.emptied into.old }
+    {
+        let line = self.next_line()?;
+        let Ok(entry) = X::read(line) else {
+            return Err(self.fault(Refusal::MalformedLine));
+        };
+        match into.store(entry) {
+            Ok(()) => Ok(()),
+            Err(refusal) => Err(self.fault(refusal)),
+        }
+    }
+}
