@@ -3,4 +3,4 @@
 
 pub mod sheet;
 
-pub use sheet::Sheet;
+pub use sheet::{Sheet, check_distance};

@@ -28,6 +28,16 @@ impl Model for Sheet {
     ghost invariant = { λ s. (400 ≤ s.distance) × (s.distance ≤ 4000) };
 }
 
+/// Refuses a braking distance in metres that no sheet may have.
+pub fn check_distance(metres: u32) -> Result<(), Refusal>
+    ensures { told result ≡ first_no (setting_distance metres) }
+{
+    if !(400..=4000).contains(&metres) {
+        return Err(Refusal::UnlawfulBrakingDistance);
+    }
+    Ok(())
+}
+
 impl Sheet {
     /// A new sheet: no vehicle, no section, and a braking distance of 1,000 m. Only this call can want memory.
     pub fn new(heap: Global) -> Result<Sheet, AllocError>
@@ -113,9 +123,7 @@ impl Sheet {
         ensures answer { told result ≡ first_no (setting_distance metres) }
         ensures held { self.new ≡ unless (told result) (with_distance self.old metres) self.old }
     {
-        if !(400..=4000).contains(&metres) {
-            return Err(Refusal::UnlawfulBrakingDistance);
-        }
+        check_distance(metres)?;
         self.distance = metres;
         Ok(())
     }

@@ -1,0 +1,82 @@
+ghost use Rattle.std.specs.Prelude.{◌≡◌, [], ◌∷◌, None};
+ghost use Rattle.std.specs.Option.{option_to_list};
+ghost use Rattle.runfile.specs.Sorts.{head_sort};
+ghost use Rattle.laws.specs.Kinds.{letter_of};
+ghost use Rattle.text.specs.Numerals.{Reads};
+
+use laws::KindLetter;
+use rules::Refusal;
+use sheet::check_distance;
+use text::{Entry, Malformed, Store, number};
+
+/// The line under the heading RUN: the kind of brake, and the braking distance in metres as it is given.
+#[derive(Clone, Copy, PartialEq, Eq, Debug)]
+pub struct Head {
+    pub kind: KindLetter,
+    pub distance: u32,
+}
+
+// The kind of brake with a letter.
+fn kind_of(letter: u8) -> Result<KindLetter, Malformed>
+    ensures { Reads (λ k. letter_of k ≡ letter ∷ []) result }
+{
+    match letter {
+        b'F' => Ok(KindLetter::F),
+        b'P' => Ok(KindLetter::P),
+        b'E' => Ok(KindLetter::E),
+        b'H' => Ok(KindLetter::H),
+        b'J' => Ok(KindLetter::J),
+        _ => Err(Malformed),
+    }
+}
+
+impl Entry for Head {
+    ghost sort = { head_sort };
+
+    fn after_name(line: &[u8]) -> Option<&[u8]> {
+        let [b'R', b'U', b'N', b' ', count @ ..] = line else {
+            return None;
+        };
+        Some(count)
+    }
+
+    fn limits() -> (u32, u32) {
+        (1, 1)
+    }
+
+    fn read(line: &[u8]) -> Result<Head, Malformed> {
+        let [letter, b' ', rest @ ..] = line else {
+            return Err(Malformed);
+        };
+        let Ok(kind) = kind_of(*letter) else {
+            return Err(Malformed);
+        };
+        let Ok(distance) = number(rest) else {
+            return Err(Malformed);
+        };
+        Ok(Head { kind, distance })
+    }
+}
+
+impl Store<Head> for Option<Head> {
+    ghost held = { λ h. option_to_list h };
+
+    ghost emptied = { λ h. None };
+
+    fn clear(&mut self) {
+        *self = None;
+    }
+
+    fn store(&mut self, head: Head) -> Result<(), Refusal> {
+        if self.is_some() {
+            return Err(Refusal::UnlawfulBrakingDistance);
+        }
+        match check_distance(head.distance) {
+            Ok(()) => {
+                *self = Some(head);
+                Ok(())
+            }
+            Err(_) => Err(Refusal::UnlawfulBrakingDistance),
+        }
+    }
+}

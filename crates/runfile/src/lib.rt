@@ -1,0 +1,8 @@
+// Run files: reading one onto a sheet, and answering its questions line by line.
+#![tactic(auto)]
+
+pub mod head;
+pub mod points;
+pub mod questions;
+pub mod sections;
+pub mod vehicles;

@@ -1,0 +1,97 @@
+ghost use Rattle.std.specs.Prelude.{◌≡◌, ◌≤◌, List, [], vec_len, vec_capacity, IfOk};
+ghost use Rattle.rules.specs.declared.figures.PointFigures.{PointFigures as GivenPoint};
+ghost use Rattle.runfile.specs.Sorts.{point_sort};
+
+use pull_table::{MOST_POINTS, first_break};
+use rules::{PointFigures, Refusal};
+use std::alloc::{AllocError, Global};
+use std::marker::Model;
+use text::{Entry, Malformed, Store, pair};
+
+/// A line under the heading PUL.
+#[derive(Drop)]
+pub struct PointLine {
+    figures: PointFigures,
+}
+
+impl Model for PointLine {
+    ghost Value = { GivenPoint };
+
+    ghost view = { λ l. l.figures };
+}
+
+impl Entry for PointLine {
+    ghost sort = { point_sort };
+
+    fn after_name(line: &[u8]) -> Option<&[u8]> {
+        let [b'P', b'U', b'L', b' ', count @ ..] = line else {
+            return None;
+        };
+        Some(count)
+    }
+
+    fn limits() -> (u32, u32) {
+        (1, 16)
+    }
+
+    fn read(line: &[u8]) -> Result<PointLine, Malformed> {
+        let Ok((speed, value)) = pair(line) else {
+            return Err(Malformed);
+        };
+        let figures = PointFigures { speed, value };
+        Ok(PointLine { figures })
+    }
+}
+
+/// The points of a pull table as far as they are read, at most 16; the memory for them is reserved when this is made.
+#[derive(Drop)]
+pub struct Points {
+    points: Vec<PointFigures>,
+}
+
+impl Model for Points {
+    ghost Value = { List GivenPoint };
+
+    ghost view = { λ p. p.points.items };
+
+    ghost invariant = { λ p. (vec_len p.points ≤ 16) × (16 ≤ vec_capacity p.points) };
+}
+
+impl Points {
+    /// Room for points, without any.
+    pub fn new(heap: Global) -> Result<Points, AllocError>
+        ensures { IfOk result (λ p. p ≡ []) }
+    {
+        let points = Vec::with_capacity(heap, MOST_POINTS)?;
+        Ok(Points { points })
+    }
+
+    /// The points in order.
+    pub fn points(&self) -> &[PointFigures]
+        ensures { result.now ≡ self.now }
+    {
+        &self.points
+    }
+}
+
+impl Store<PointLine> for Points {
+    ghost held = { λ points. points };
+
+    ghost emptied = { λ points. [] };
+
+    fn clear(&mut self) {
+        self.points.clear();
+    }
+
+    fn store(&mut self, line: PointLine) -> Result<(), Refusal> {
+        if self.points.len() >= MOST_POINTS {
+            return Err(Refusal::UnlawfulLaw);
+        }
+        self.points.push_reserved(line.figures);
+        if first_break(&self.points).is_some() {
+            self.points.pop();
+            return Err(Refusal::UnlawfulLaw);
+        }
+        Ok(())
+    }
+}

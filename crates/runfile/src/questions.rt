@@ -1,0 +1,125 @@
+ghost use Rattle.std.specs.Prelude.{◌≡◌, ◌≤◌, List, [], vec_len, vec_capacity, IfOk};
+ghost use Rattle.rules.specs.declared.figures.Question.{Question as Asked};
+ghost use Rattle.runfile.specs.Sorts.{question_sort};
+ghost use Rattle.text.specs.Numerals.{Reads};
+ghost use Rattle.text.specs.Sorts.{Says};
+
+use rules::{MassQuestion, Question, Refusal, SpeedQuestion, StopQuestion};
+use std::alloc::{AllocError, Global};
+use std::marker::Model;
+use text::{Entry, Malformed, Store, pair, triple};
+
+// How many questions a run file may ask.
+const MOST_QUESTIONS: usize = 200;
+
+/// A line under the heading ASK.
+#[derive(Drop)]
+pub struct QuestionLine {
+    question: Question,
+}
+
+impl Model for QuestionLine {
+    ghost Value = { Asked };
+
+    ghost view = { λ l. l.question };
+}
+
+// The question that a line asks.
+fn question_on(line: &[u8]) -> Result<Question, Malformed>
+    ensures { Reads (Says question_sort line.now) result }
+{
+    match line {
+        [b'S', b' ', rest @ ..] => {
+            let Ok((place, speed, factor)) = triple(rest) else {
+                return Err(Malformed);
+            };
+            Ok(Question::Stop(StopQuestion {
+                place,
+                speed,
+                factor,
+            }))
+        }
+        [b'V', b' ', rest @ ..] => {
+            let Ok((place, factor)) = pair(rest) else {
+                return Err(Malformed);
+            };
+            Ok(Question::Speed(SpeedQuestion { place, factor }))
+        }
+        [b'M', b' ', rest @ ..] => {
+            let Ok((speed, gross)) = pair(rest) else {
+                return Err(Malformed);
+            };
+            Ok(Question::Mass(MassQuestion { speed, gross }))
+        }
+        _ => Err(Malformed),
+    }
+}
+
+impl Entry for QuestionLine {
+    ghost sort = { question_sort };
+
+    fn after_name(line: &[u8]) -> Option<&[u8]> {
+        let [b'A', b'S', b'K', b' ', count @ ..] = line else {
+            return None;
+        };
+        Some(count)
+    }
+
+    fn limits() -> (u32, u32) {
+        (0, 200)
+    }
+
+    fn read(line: &[u8]) -> Result<QuestionLine, Malformed> {
+        let question = question_on(line)?;
+        Ok(QuestionLine { question })
+    }
+}
+
+/// The questions of a run file in their order, at most 200; the memory for them is reserved when this is made.
+#[derive(Drop)]
+pub struct Questions {
+    questions: Vec<Question>,
+}
+
+impl Model for Questions {
+    ghost Value = { List Asked };
+
+    ghost view = { λ q. q.questions.items };
+
+    ghost invariant = { λ q. (vec_len q.questions ≤ 200) × (200 ≤ vec_capacity q.questions) };
+}
+
+impl Questions {
+    /// Room for questions, without any.
+    pub fn new(heap: Global) -> Result<Questions, AllocError>
+        ensures { IfOk result (λ q. q ≡ []) }
+    {
+        let questions = Vec::with_capacity(heap, MOST_QUESTIONS)?;
+        Ok(Questions { questions })
+    }
+
+    /// The questions in order.
+    pub fn questions(&self) -> &[Question]
+        ensures { result.now ≡ self.now }
+    {
+        &self.questions
+    }
+}
+
+impl Store<QuestionLine> for Questions {
+    ghost held = { λ questions. questions };
+
+    ghost emptied = { λ questions. [] };
+
+    fn clear(&mut self) {
+        self.questions.clear();
+    }
+
+    fn store(&mut self, line: QuestionLine) -> Result<(), Refusal> {
+        if self.questions.len() >= MOST_QUESTIONS {
+            return Err(Refusal::QuestionOutOfRange);
+        }
+        self.questions.push_reserved(line.question);
+        Ok(())
+    }
+}

@@ -1,0 +1,96 @@
+ghost use Rattle.std.specs.Prelude.{◌≡◌, true, []};
+ghost use Rattle.rules.specs.Book.{Vehicle as BookVehicle, vehicle, book};
+ghost use Rattle.rules.specs.Questions.{lawful_letter};
+ghost use Rattle.runfile.specs.Sorts.{vehicle_sort};
+ghost use Rattle.text.specs.Numerals.{Reads};
+
+use rules::{Refusal, VehicleFigures};
+use sheet::Sheet;
+use std::marker::Model;
+use text::{Entry, Malformed, Store, leading_number, switch};
+
+/// A line under the heading VEH: the figures of a vehicle, and whether its brake is in.
+#[derive(Drop)]
+pub struct VehicleLine {
+    figures: VehicleFigures,
+    braked: bool,
+}
+
+impl Model for VehicleLine {
+    ghost Value = { BookVehicle };
+
+    ghost view = { λ v. vehicle v.figures v.braked };
+}
+
+// The letter of a vehicle.
+fn letter_of(byte: u8) -> Result<char, Malformed>
+    ensures { Reads (λ letter. (letter ≡ byte) × (lawful_letter byte ≡ true)) result }
+{
+    match char::from(byte) {
+        'L' => Ok('L'),
+        'W' => Ok('W'),
+        _ => Err(Malformed),
+    }
+}
+
+impl Entry for VehicleLine {
+    ghost sort = { vehicle_sort };
+
+    fn after_name(line: &[u8]) -> Option<&[u8]> {
+        let [b'V', b'E', b'H', b' ', count @ ..] = line else {
+            return None;
+        };
+        Some(count)
+    }
+
+    fn limits() -> (u32, u32) {
+        (0, 120)
+    }
+
+    fn read(line: &[u8]) -> Result<VehicleLine, Malformed> {
+        let [letter, b' ', rest @ ..] = line else {
+            return Err(Malformed);
+        };
+        let Ok(letter) = letter_of(*letter) else {
+            return Err(Malformed);
+        };
+        let Ok((mass, rest)) = leading_number(rest) else {
+            return Err(Malformed);
+        };
+        let Ok((pressure, rest)) = leading_number(rest) else {
+            return Err(Malformed);
+        };
+        let Ok(braked) = switch(rest) else {
+            return Err(Malformed);
+        };
+        let figures = VehicleFigures {
+            letter,
+            mass,
+            pressure,
+        };
+        Ok(VehicleLine { figures, braked })
+    }
+}
+
+impl Store<VehicleLine> for Sheet {
+    ghost held = { λ b. b.vehicles };
+
+    ghost emptied = { λ b. book [] b.sections b.distance };
+
+    fn clear(&mut self) {
+        self.uncouple_all();
+    }
+
+    fn store(&mut self, line: VehicleLine) -> Result<(), Refusal> {
+        let k = self.vehicle_count();
+        let Ok(()) = self.couple(line.figures) else {
+            return Err(Refusal::UnlawfulVehicle);
+        };
+        if !line.braked {
+            let Ok(()) = self.cut_out(k) else {
+                unreachable!()
+            };
+        }
+        Ok(())
+    }
+}
