@@ -4,27 +4,34 @@ use Rattle.std.proofs.lemmas.List.{append_assoc, append-nil, append_cancel_left,
 use Rattle.text.specs.Sorts.{Sort, heading, headings, lines, Proper, Next, Begins, Read, Allowed}
 
 module _ {X : Type 0} (s : Sort X) where
-  lines-push : (xs : List X) (x : X) → lines s (xs ++ x ∷ []) ≡ lines s xs ++ (s.written x ++ 10 ∷ [])
-  lines-push xs x = sym (flat_map_more (λ y. s.written y ++ 10 ∷ []) [] xs x)
+  lines_push : (xs : List X) (x : X) → lines s (xs ++ x ∷ []) ≡ lines s xs ++ (s.written x ++ 10 ∷ [])
+  lines_push xs x = sym (flat_map_more (λ y. s.written y ++ 10 ∷ []) [] xs x)
 
-  proper-push : (before xs : List X) (x : X) → Proper s before xs → s.Formed x → s.Lawful (before ++ xs) x → Proper s before (xs ++ x ∷ [])
-  proper-push before [] x h form law = (form, rw append-nil at law, tt)
-  proper-push before (y ∷ ys) x (f, l, rest) form law =
-      (f, l, proper-push (before ++ y ∷ []) ys x rest form (rw append_assoc law))
+  proper_push : (before xs : List X) (x : X) → Proper s before xs → s.Formed x → s.Lawful (before ++ xs) x → Proper s before (xs ++ x ∷ [])
+  proper_push before [] x h form law = (form, rw append-nil at law, tt)
+  proper_push before (y ∷ ys) x (f, l, rest) form law =
+      (f, l, proper_push (before ++ y ∷ []) ys x rest form (rw append_assoc law))
 
-  pub begins-more : (text : List ℕ) (xs : List X) (rest : List ℕ) (x : X) (after : List ℕ) → Begins s text xs rest → Next s xs rest x after → Begins s text (xs ++ x ∷ []) after
-  begins-more text xs rest x after (proper, e) (form, law, next) =
-      let p = lines-push xs x
-      in let q = append_assoc (lines s xs) (s.written x ++ 10 ∷ []) after
-      in let r = append_assoc (s.written x) (10 ∷ []) after
-      in (proper-push [] xs x proper form law, cc)
+  pub begins_more : (text : List ℕ) (xs : List X) (rest : List ℕ) (x : X) (after : List ℕ) → Begins s text xs rest → Next s xs rest x after → Begins s text (xs ++ x ∷ []) after
+  begins_more text xs rest x after begins next =
+      let e = begins.lines in
+      let f = next.line in
+      let p = lines_push xs x in
+      let q = append_assoc (lines s xs) (s.written x ++ 10 ∷ []) after in
+      let r = append_assoc (s.written x) (10 ∷ []) after in
+      record { proper = proper_push [] xs x begins.proper next.formed next.lawful; lines = cc }
 
   -- a heading and its entries are a section
-  pub read-section : (text entries rest : List ℕ) (n : ℕ) (xs : List X) → Next (headings s) [] text n entries → length xs ≡ n → Begins s entries xs rest → Read s text xs rest
-  read-section text entries rest n xs (short, allowed, e) len (proper, f) =
-      let assoc = append_assoc (heading s.name n) (10 ∷ lines s xs) rest
-      in ((subst (Allowed s) (sym len) allowed, proper), subst (λ k. text ≡ (heading s.name k ++ 10 ∷ lines s xs) ++ rest) (sym len) (cc))
+  pub read_section : (text entries rest : List ℕ) (n : ℕ) (xs : List X) → Next (headings s) [] text n entries → length xs ≡ n → Begins s entries xs rest → Read s text xs rest
+  read_section text entries rest n xs head len begins =
+      let e = head.line in
+      let f = begins.lines in
+      let assoc = append_assoc (heading s.name n) (10 ∷ lines s xs) rest in
+      record {
+        good = record { allowed = subst (Allowed s) (sym len) head.lawful; proper = begins.proper };
+        section = subst (λ k. text ≡ (heading s.name k ++ 10 ∷ lines s xs) ++ rest) (sym len) cc;
+      }
 
 -- what stands after the name in a heading is the numeral of its count
-pub count-of : (name rest line : List ℕ) (n : ℕ) → line ≡ name ++ 32 ∷ rest → line ≡ heading name n → rest ≡ decimal n
-count-of name rest line n e f = let t = append_cancel_left name (32 ∷ rest) (32 ∷ decimal n) (sym e ∙ f) in cc
+pub count_of : (name rest line : List ℕ) (n : ℕ) → line ≡ name ++ 32 ∷ rest → line ≡ heading name n → rest ≡ decimal n
+count_of name rest line n e f = let t = append_cancel_left name (32 ∷ rest) (32 ∷ decimal n) (sym e ∙ f) in cc

@@ -14,28 +14,28 @@ fits64 : (n : ℕ) → n < 10 ^ 7 → n < 2 ^ 64
 fits64 n h = omega arith
 
 -- a numeral is digits, and its value is its number
-pub numeral-digits : (f : List ℕ) (n : ℕ) → Numeral f n → (0 < length f) × AllDigits 10 f × (digits_value 10 f ≡ n)
-numeral-digits f n (small, e) =
+pub numeral_digits : (f : List ℕ) (n : ℕ) → Numeral f n → (0 < length f) × AllDigits 10 f × (digits_value 10 f ≡ n)
+numeral_digits f n (small, e) =
     let r = decimal_is_IsNumeral n (fits64 n small) in rw e (r.0.0, r.0.1, r.1)
 
-pub numeral-short : (f : List ℕ) (n : ℕ) → Numeral f n → length f ≤ 7
-numeral-short f n (small, e) = rw e (length-decimal-le 7 n (omega arith) small (fits64 n small))
+pub numeral_short : (f : List ℕ) (n : ℕ) → Numeral f n → length f ≤ 7
+numeral_short f n (small, e) = rw e (length-decimal-le 7 n (omega arith) small (fits64 n small))
 
 -- each byte of a numeral is a digit
-pub numeral-byte : (f : List ℕ) (n i : ℕ) → Numeral f n → i < length f → IsInRange 48 57 (get_or f i 0)
-numeral-byte f n i h l = digit_at f i (numeral-digits f n h).1 l
+pub numeral_byte : (f : List ℕ) (n i : ℕ) → Numeral f n → i < length f → IsInRange 48 57 (get_or f i 0)
+numeral_byte f n i h l = digit_at f i (numeral_digits f n h).1 l
 
-pub numeral-first : (f : List ℕ) (n : ℕ) → Numeral f n → IsInRange 48 57 (get_or f 0 0)
-numeral-first f n h = numeral-byte f n 0 h (numeral-digits f n h).0
+pub numeral_first : (f : List ℕ) (n : ℕ) → Numeral f n → IsInRange 48 57 (get_or f 0 0)
+numeral_first f n h = numeral_byte f n 0 h (numeral_digits f n h).0
 
 -- only the numeral of 0 begins with a zero
-pub numeral-zero : (f : List ℕ) (n : ℕ) → Numeral f n → get_or f 0 0 ≡ 48 → length f ≡ 1
-numeral-zero f n (small, e) z =
+pub numeral_zero : (f : List ℕ) (n : ℕ) → Numeral f n → get_or f 0 0 ≡ 48 → length f ≡ 1
+numeral_zero f n (small, e) z =
     ⊎_elim (λ tiny. ap length (e ∙ decimal_digit n tiny)) (λ large. let p : 48 < get_or (decimal n) 0 0 = first_decimal n (omega arith) (fits64 n small) in absurd (omega (arith, ap (λ l. get_or l 0 0) e))) (cases_lt n 10)
 
 -- digits with no leading zero are a numeral
-pub numeral-from-digits : (f : List ℕ) → AllDigits 10 f → 0 < length f → length f ≤ 7 → (get_or f 0 0 ≡ 48 → length f ≡ 1) → Numeral f (digits_value 10 f)
-numeral-from-digits f ds some short lead =
+pub numeral_from_digits : (f : List ℕ) → AllDigits 10 f → 0 < length f → length f ≤ 7 → (get_or f 0 0 ≡ 48 → length f ≡ 1) → Numeral f (digits_value 10 f)
+numeral_from_digits f ds some short lead =
     let small : digits_value 10 f < 10 ^ 7 = digits_value_short (numerals_by_value _ tells_digits) f 7 ds short
     in (small, sym (decimal-digits_value (numerals_by_value _ tells_digits) f ds some lead (omega arith)))
 
@@ -43,17 +43,17 @@ numeral-from-digits f ds some short lead =
 pub digit_value : (b : ℕ) → IsInRange 48 57 b → digitValue b ≡ b - 48
 digit_value b h = search rules
 
-pub front-small : (f : List ℕ) (i k : ℕ) → i ≤ k → AllDigits 10 (take i f) → digits_value 10 (take i f) < 10 ^ k
-front-small f i k l ds = digits_value_short (numerals_by_value _ tells_digits) (take i f) k ds (simp length-take (omega arith))
+pub front_small : (f : List ℕ) (i k : ℕ) → i ≤ k → AllDigits 10 (take i f) → digits_value 10 (take i f) < 10 ^ k
+front_small f i k l ds = digits_value_short (numerals_by_value _ tells_digits) (take i f) k ds (simp length-take (omega arith))
 
-pub front-more : (f : List ℕ) (i n d : ℕ) → i < length f → IsInRange 48 57 (get_or f i 0) → d ≡ get_or f i 0 - 48 → AllDigits 10 (take i f) × (n ≡ digits_value 10 (take i f)) → AllDigits 10 (take (i + 1) f) × (n * 10 + d ≡ digits_value 10 (take (i + 1) f))
-front-more f i n d l isDigit dIs (ds, e) =
+pub front_more : (f : List ℕ) (i n d : ℕ) → i < length f → IsInRange 48 57 (get_or f i 0) → d ≡ get_or f i 0 - 48 → AllDigits 10 (take i f) × (n ≡ digits_value 10 (take i f)) → AllDigits 10 (take (i + 1) f) × (n * 10 + d ≡ digits_value 10 (take (i + 1) f))
+front_more f i n d l isDigit dIs (ds, e) =
     let v = digit_value (get_or f i 0) isDigit
     in (digits_more 10 f i l ds (omega arith), omega (arith, digits_value_more 10 f i l))
 
 -- one text writes one number
-pub numeral-same : (f : List ℕ) (m n : ℕ) → Numeral f m → Numeral f n → m ≡ n
-numeral-same f m n a b = omega (arith, (numeral-digits f m a).2, (numeral-digits f n b).2)
+pub numeral_same : (f : List ℕ) (m n : ℕ) → Numeral f m → Numeral f n → m ≡ n
+numeral_same f m n a b = omega (arith, (numeral_digits f m a).2, (numeral_digits f n b).2)
 
 -- what a slice pattern with one named byte says
 pub after_first : (xs : List ℕ) (a : ℕ) → 0 < length xs → get_or xs 0 0 ≡ a → xs ≡ a ∷ drop 1 xs
@@ -61,11 +61,11 @@ after_first [] a some e = absurd (omega arith)
 after_first (x ∷ xs) a some e = ap (λ y. y ∷ xs) e
 
 -- after a minus stands the numeral of a number above 0
-pub minus-reads : (f r : List ℕ) (z : ℤ) → f ≡ 45 ∷ r → SignedNumeral f z → (m : ℕ) × (0 < m) × Numeral r m
-minus-reads f r (pos n) e h =
-    let first : get_or f 0 0 ≡ 45 = ap (λ l. get_or l 0 0) e in absurd (omega (arith, numeral-first f n h))
-minus-reads f r (negsuc n) e (small, is) = (suc n, omega arith, (small, cc))
+pub minus_reads : (f r : List ℕ) (z : ℤ) → f ≡ 45 ∷ r → SignedNumeral f z → (m : ℕ) × (0 < m) × Numeral r m
+minus_reads f r (pos n) e h =
+    let first : get_or f 0 0 ≡ 45 = ap (λ l. get_or l 0 0) e in absurd (omega (arith, numeral_first f n h))
+minus_reads f r (negsuc n) e (small, is) = (suc n, omega arith, (small, cc))
 
-pub minus-writes : (f r : List ℕ) (n : ℕ) → f ≡ 45 ∷ r → (n ≡ 0 → ⊥) → Numeral r n → SignedNumeral f (neg_ℤ (pos n))
-minus-writes f r zero e some h = absurd (some refl)
-minus-writes f r (suc n) e some (small, is) = (small, cc)
+pub minus_writes : (f r : List ℕ) (n : ℕ) → f ≡ 45 ∷ r → (n ≡ 0 → ⊥) → Numeral r n → SignedNumeral f (neg_ℤ (pos n))
+minus_writes f r zero e some h = absurd (some refl)
+minus_writes f r (suc n) e some (small, is) = (small, cc)

@@ -16,12 +16,12 @@ Entries (first {X} s more) = List X × Entries more
 
 -- the text of sections with these entries
 abbrev pub plan_text : (plan : Plan) → Entries plan → List ℕ
-plan_text nothing tt = []
+plan_text nothing _ = []
 plan_text (first s more) (xs, others) = section s xs ++ plan_text more others
 
 -- each section has as many entries as it may have, each proper
 abbrev pub AllGood : (plan : Plan) → Entries plan → Type 0
-AllGood nothing tt = Unit {0}
+AllGood nothing _ = Unit {0}
 AllGood (first s more) (xs, others) = Good s xs × AllGood more others
 
 -- the text is that of these entries, which have nothing wrong
@@ -32,7 +32,7 @@ pub record Accepts (plan : Plan) (text : List ℕ) (entries : Entries plan) : Ty
 
 -- section by section: each has nothing wrong, and nothing follows the last
 abbrev pub Accepted : (plan : Plan) → List ℕ → Entries plan → Type 0
-Accepted nothing text tt = text ≡ []
+Accepted nothing text _ = text ≡ []
 Accepted (first s more) text (xs, others) = (rest : List ℕ) × Read s text xs rest × Accepted more rest others
 
 -- after `line` lines comes a text that should be at its end, and is not

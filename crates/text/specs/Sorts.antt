@@ -40,12 +40,16 @@ module _ {X : Type 0} (s : Sort X) where
   Says line x = s.Formed x × (line ≡ s.written x)
 
   -- the next line of text says x, which is lawful after those before, and rest follows
-  abbrev pub Next : List X → List ℕ → X → List ℕ → Type 0
-  Next before text x rest = s.Formed x × s.Lawful before x × (text ≡ s.written x ++ 10 ∷ rest)
+  pub record Next (before : List X) (text : List ℕ) (x : X) (rest : List ℕ) : Type 0 where
+    pub formed : s.Formed x
+    pub lawful : s.Lawful before x
+    pub line : text ≡ s.written x ++ 10 ∷ rest
 
-  -- a whole line stands where an entry is due after those before: it says none, or one that is not lawful
+  -- where an entry is due after those before, a whole line says none, or says one that is not lawful
   abbrev pub Bad : List X → List ℕ → Refusal → Type 0
-  Bad before line why = ((why ≡ MalformedLine) × ((x : X) → Says line x → ⊥)) ⊎ ((why ≡ s.refusal) × ((x : X) × Says line x × (s.Lawful before x → ⊥)))
+  Bad before line why =
+      ((why ≡ MalformedLine) × ((x : X) → Says line x → ⊥))
+      ⊎ ((why ≡ s.refusal) × ((x : X) × Says line x × (s.Lawful before x → ⊥)))
 
   -- the next line of text is missing or is at fault
   abbrev pub NextFault : List X → List ℕ → Refusal → Type 0
@@ -61,31 +65,49 @@ module _ {X : Type 0} (s : Sort X) where
   Proper before (x ∷ xs) = s.Formed x × s.Lawful before x × Proper (before ++ x ∷ []) xs
 
   -- the text begins with the lines of proper entries, and rest follows
-  abbrev pub Begins : List ℕ → List X → List ℕ → Type 0
-  Begins text xs rest = Proper [] xs × (text ≡ lines xs ++ rest)
+  pub record Begins (text : List ℕ) (xs : List X) (rest : List ℕ) : Type 0 where
+    pub proper : Proper [] xs
+    pub lines : text ≡ lines xs ++ rest
 
-  -- the heading with the count, and the entries
+  -- the text of a section: the heading with the count, and the lines of the entries
   abbrev pub section : List X → List ℕ
   section xs = heading s.name (length xs) ++ 10 ∷ lines xs
 
-  -- as many entries as there may be, each proper
-  abbrev pub Good : List X → Type 0
-  Good xs = Allowed s (length xs) × Proper [] xs
+  -- as many entries as a section may have, each proper
+  pub record Good (xs : List X) : Type 0 where
+    pub allowed : Allowed s (length xs)
+    pub proper : Proper [] xs
 
   -- the text begins with a section that has nothing wrong, and rest follows
-  abbrev pub Read : List ℕ → List X → List ℕ → Type 0
-  Read text xs rest = Good xs × (text ≡ section xs ++ rest)
+  pub record Read (text : List ℕ) (xs : List X) (rest : List ℕ) : Type 0 where
+    pub good : Good xs
+    pub section : text ≡ section xs ++ rest
 
-  -- where n entries are due the text begins with fewer, and the line after them is at fault
-  abbrev pub EntriesFault : List ℕ → ℕ → ℕ → Refusal → Type 0
-  EntriesFault text n right why = (done : List X) × (rest : List ℕ) × Begins text done rest × NextFault done rest why × (length done < n) × (right ≡ length done)
+  -- where some entries are due the text begins with fewer, `right` of them, and the line after them is at fault
+  pub record EntriesFault (text : List ℕ) (due right : ℕ) (why : Refusal) : Type 0 where
+    pub done : List X
+    pub rest : List ℕ
+    pub begins : Begins text done rest
+    pub counted : right ≡ length done
+    pub fewer : length done < due
+    pub fault : NextFault done rest why
 
   -- what a store does with an entry: it holds it behind the others, or refuses it and is unchanged, as the entry is not lawful
   -- or there are as many as there may be
   abbrev pub Stored : {D : Type 0} → (D → List X) → D → X → Result (Unit {0}) Refusal → D → Type 0
   Stored held old x (Ok _) new = s.Lawful (held old) x × (held new ≡ held old ++ x ∷ [])
-  Stored held old x (Err e) new = (new ≡ old) × (((e ≡ s.refusal) × (s.Lawful (held old) x → ⊥)) ⊎ (s.most ≤ length (held old)))
+  Stored held old x (Err e) new =
+      (new ≡ old) × (((e ≡ s.refusal) × (s.Lawful (held old) x → ⊥)) ⊎ (s.most ≤ length (held old)))
+
+-- the text begins with a heading, and after some of the entries that are due then a line is at fault
+pub record EntryFault {X : Type 0} (s : Sort X) (text : List ℕ) (right : ℕ) (why : Refusal) : Type 0 where
+  pub due : ℕ
+  pub entries : List ℕ
+  pub begins : Next (headings s) [] text due entries
+  pub done : ℕ
+  pub fault : EntriesFault s entries due done why
+  pub counted : right ≡ done + 1
 
 -- the text begins with `right` lines of a section that have nothing wrong, and the next is at fault: the heading, or an entry
 abbrev pub Wrong : {X : Type 0} → Sort X → List ℕ → ℕ → Refusal → Type 0
-Wrong s text right why = ((right ≡ 0) × NextFault (headings s) [] text why) ⊎ ((n : ℕ) × (rest : List ℕ) × (k : ℕ) × Next (headings s) [] text n rest × EntriesFault s rest n k why × (right ≡ k + 1))
+Wrong s text right why = ((right ≡ 0) × NextFault (headings s) [] text why) ⊎ EntryFault s text right why

@@ -1,7 +1,7 @@
 use Rattle.std.proofs.Common.{length, sym, ap, ◌∙◌, subst, arith}
 use Rattle.std.proofs.lemmas.List.{length_push}
 use Rattle.text.specs.Sorts.{Begins}
-use Rattle.text.proofs.Growth.{begins-more}
+use Rattle.text.proofs.Growth.{begins_more}
 use Rattle.text.proofs.text.Text.entries.Goals as goal
 
 -- one entry more is held, and the text began with it too
@@ -13,7 +13,7 @@ loop-preserved g c =
       held = omega (arith, ap length pushed, length_push before x, old.held);
       begins =
           subst (λ xs. Begins s c.args.self.now.rest xs c.entry.new.self.rest) (sym pushed)
-          (begins-more s c.args.self.now.rest before c.loop.self.rest x c.entry.new.self.rest old.begins next);
+          (begins_more s c.args.self.now.rest before c.loop.self.rest x c.entry.new.self.rest old.begins next);
       line = omega (arith, line, old.line);
       others = c.entry.ensures.others ∙ old.others;
     }
