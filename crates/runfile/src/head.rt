@@ -1,13 +1,14 @@
-ghost use Rattle.std.specs.Prelude.{◌≡◌, [], ◌∷◌, None};
+ghost use Rattle.std.specs.Prelude.{◌≡◌, ℕ, ◌+◌, [], ◌∷◌, None, MatchResult};
+ghost use Rattle.text.specs.Sorts.{Read, Wrong};
 ghost use Rattle.std.specs.Option.{option_to_list};
 ghost use Rattle.runfile.specs.Sorts.{head_sort};
 ghost use Rattle.laws.specs.Kinds.{letter_of};
 ghost use Rattle.text.specs.Numerals.{Reads};
 
 use laws::KindLetter;
-use rules::Refusal;
+use rules::{Fault, Refusal};
 use sheet::check_distance;
-use text::{Entry, Malformed, Store, number};
+use text::{Entry, Malformed, Store, Text, number};
 
 /// The line under the heading RUN: the kind of brake, and the braking distance in metres as it is given.
 #[derive(Clone, Copy, PartialEq, Eq, Debug)]
@@ -79,4 +80,16 @@ impl Store<Head> for Option<Head> {
             Err(_) => Err(Refusal::UnlawfulBrakingDistance),
         }
     }
+}
+
+/// Reads the section RUN, which has one line.
+pub(crate) fn read_head(text: &mut Text) -> Result<Head, Fault>
+    ensures { MatchResult result
+        (λ h. Read head_sort text.old.rest (h ∷ []) text.new.rest × (text.new.line ≡ text.old.line + 2))
+        (λ f. (right : ℕ) × Wrong head_sort text.old.rest right f.refusal × (f.line ≡ text.old.line + (right + 1))) }
+{
+    let mut head = None;
+    text.section::<Head, Option<Head>>(&mut head)?;
+    let Some(head) = head else { unreachable!() };
+    Ok(head)
 }

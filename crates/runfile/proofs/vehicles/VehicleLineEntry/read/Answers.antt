@@ -1,6 +1,6 @@
 use Rattle.std.proofs.Common.{◌++◌, ◌∷◌, get_or, decimal, rules}
 use Rattle.text.specs.Fields.{flag}
-use Rattle.text.proofs.Parted.{after_two, leads-same}
+use Rattle.text.proofs.Parted.{after_two, leads_same}
 use Rattle.runfile.proofs.vehicles.VehicleLineEntry.read.Goals as goal
 
 pub returns-in_default-leading_number : goal.returns-in_default-leading_number
@@ -11,14 +11,14 @@ returns-in_default-leading_number c v (form, e) =
 pub returns-in_default-leading_number-2 : goal.returns-in_default-leading_number-2
 returns-in_default-leading_number-2 c v (form, e) =
     let first = after_two c.args.line.now (get_or c.args.line.now 0 0) 32 (search rules) (search rules) (search rules) in
-    let k = leads-same _ _ v.figures.mass _ (decimal v.figures.pressure ++ 32 ∷ flag v.braked) c.in-Ok-leading_number.ensures (form.1, cc) in
+    let k = leads_same _ _ v.figures.mass _ (decimal v.figures.pressure ++ 32 ∷ flag v.braked) c.in-Ok-leading_number.ensures (form.1, cc) in
     c.in_default-leading_number-2.ensures v.figures.pressure (flag v.braked) (form.2, k.1)
 
 pub returns-in_default-switch : goal.returns-in_default-switch
 returns-in_default-switch c v (form, e) =
     let first = after_two c.args.line.now (get_or c.args.line.now 0 0) 32 (search rules) (search rules) (search rules) in
-    let k = leads-same _ _ v.figures.mass _ (decimal v.figures.pressure ++ 32 ∷ flag v.braked) c.in-Ok-leading_number.ensures (form.1, cc) in
-    let l = leads-same _ _ v.figures.pressure _ (flag v.braked) c.in-Ok-leading_number-2.ensures (form.2, k.1) in
+    let k = leads_same _ _ v.figures.mass _ (decimal v.figures.pressure ++ 32 ∷ flag v.braked) c.in-Ok-leading_number.ensures (form.1, cc) in
+    let l = leads_same _ _ v.figures.pressure _ (flag v.braked) c.in-Ok-leading_number-2.ensures (form.2, k.1) in
     c.in_default-switch.ensures v.braked l.1
 
 pub returns : goal.returns

@@ -1,0 +1,93 @@
+ghost use Rattle.std.specs.Prelude.{◌≡◌, true, ⊤, [], Some, None, Ok, Err, IfOk, MatchResult, Option};
+ghost use Rattle.std.specs.Option.{option_map, IfSome};
+ghost use Rattle.rules.specs.declared.fault.Fault.{Fault as FileFault};
+ghost use Rattle.rules.specs.Book.{Book};
+ghost use Rattle.rules.specs.Table.{lawful_table};
+ghost use Rattle.runfile.specs.Run.{Request, request, IsRun, IsFault, ReadFrom};
+
+use crate::head::read_head;
+use crate::points::{PointLine, Points};
+use crate::questions::{QuestionLine, Questions};
+use crate::sections::SectionLine;
+use crate::vehicles::VehicleLine;
+use laws::KindLetter;
+use pull_table::PullTable;
+use rules::{Fault, Question};
+use sheet::Sheet;
+use std::alloc::{AllocError, Global};
+use std::marker::Model;
+use text::Text;
+
+/// What was read of a run file beside the sheet: the kind of brake, the points of the pull table, and the questions; nothing
+/// where no file was read yet, or the last one was refused. The memory is reserved when this is made.
+#[derive(Drop)]
+pub struct RunFile {
+    kind: Option<KindLetter>,
+    points: Points,
+    questions: Questions,
+}
+
+impl Model for RunFile {
+    ghost Value = { Option Request };
+
+    ghost view = { λ f. option_map (λ k. request k f.points f.questions) f.kind };
+
+    ghost invariant = { λ f. IfSome f.kind (λ _. lawful_table f.points ≡ true) };
+}
+
+impl RunFile {
+    /// Room for what a run file says; nothing is read yet. Only this call can want memory.
+    pub fn new(heap: Global) -> Result<RunFile, AllocError>
+        ensures { IfOk result (λ f. f ≡ None) }
+    {
+        let points = Points::new(heap)?;
+        let questions = Questions::new(heap)?;
+        Ok(RunFile {
+            kind: None,
+            points,
+            questions,
+        })
+    }
+
+    /// Reads a run file: its train, line and braking distance onto the sheet, whatever that held before, and the rest into this.
+    /// A file with a fault leaves an empty sheet, and nothing read.
+    pub fn read(&mut self, sheet: &mut Sheet, text: &[u8]) -> Result<(), Fault>
+        ensures outcome { ReadFrom text.now result self.new sheet.new }
+        ensures accepts { (q : Request) (b : Book) → IsRun text.now q b → (result ≡ Ok tt) × (self.new ≡ Some q) × (sheet.new ≡ b) }
+        ensures refuses { (f : FileFault) → IsFault text.now f → result ≡ Err f }
+    {
+        self.kind = None;
+        match read_sections(&mut self.points, &mut self.questions, sheet, text) {
+            Ok(kind) => {
+                self.kind = Some(kind);
+                Ok(())
+            }
+            Err(fault) => {
+                sheet.clear();
+                Err(fault)
+            }
+        }
+    }
+}
+
+// Reads the sections of a run file, each to where it belongs.
+fn read_sections(
+    points: &mut Points,
+    questions: &mut Questions,
+    sheet: &mut Sheet,
+    text: &[u8],
+) -> Result<KindLetter, Fault>
+    ensures { MatchResult result (λ k. IsRun text.now (request k points.new questions.new) sheet.new) (IsFault text.now) }
+{
+    let mut text = Text::of(text)?;
+    let head = read_head(&mut text)?;
+    let Ok(()) = sheet.set_distance(head.distance) else {
+        unreachable!()
+    };
+    text.section::<PointLine, Points>(points)?;
+    text.section::<VehicleLine, Sheet>(sheet)?;
+    text.section::<SectionLine, Sheet>(sheet)?;
+    text.section::<QuestionLine, Questions>(questions)?;
+    text.end()?;
+    Ok(head.kind)
+}
