@@ -63,16 +63,14 @@ digits n xs ys at e big fits lt p =
     joined (decimal (n / 10)) ((48 + n % 10) ∷ []) (decimal n) xs ys (set ys e (48 + n % 10)) at e (e + 1) p (one ys e (48 + n % 10) lt)
     (decimal_step n big (omega arith))
 
--- how long numerals are
+-- how long it is: one byte, or one longer than without its last digit, and then not over nine
 pub one_long : (n : ℕ) → n < 10 → length (decimal n) ≡ 1
 one_long n small = ap length (decimal_digit n small)
 
 pub one_longer : (n : ℕ) → 10 ≤ n → n < 2 ^ 32 → length (decimal n) ≡ length (decimal (n / 10)) + 1
 one_longer n big fits = ap length (decimal_step n big (omega arith)) ∙ length-append (decimal (n / 10)) _
 
--- a numeral below 2 ^ 32 has at most ten digits, and fewer without its last
-pub ten_at_most : (n : ℕ) → n < 2 ^ 32 → length (decimal n) ≤ 10
-ten_at_most n fits = length-decimal-le 10 n (omega arith) (omega arith) (omega arith)
-
 pub nine_before : (n : ℕ) → n < 2 ^ 32 → length (decimal (n / 10)) ≤ 9
 nine_before n fits = length-decimal-le 9 (n / 10) (omega arith) (omega arith) (omega arith)
+
+pub ruleset numerals = (digit, digits, one_long, one_longer, nine_before)

@@ -1,4 +1,4 @@
-ghost use Rattle.std.specs.Prelude.{◌≡◌, ◌+◌, ◌≤◌, ◌∷◌, length, codes, decimal};
+ghost use Rattle.std.specs.Prelude.{◌≡◌, ◌+◌, ◌≤◌, ◌++◌, length, codes, decimal};
 ghost use Rattle.printing.specs.Puts.{Puts};
 
 // How many bytes a buffer must have for a line of any figures.
@@ -17,7 +17,7 @@ pub(crate) fn put_bytes(out: &mut [u8], at: usize, bytes: &[u8]) -> usize
 }
 
 // Puts the numeral of n at an offset, and answers where it ends.
-#[tactic(auto, using(crate::proofs::Puts::digit, crate::proofs::Puts::digits, crate::proofs::Puts::one_long, crate::proofs::Puts::one_longer, crate::proofs::Puts::nine_before))]
+#[tactic(auto, using(crate::proofs::Puts::numerals))]
 pub(crate) fn put_number(out: &mut [u8], at: usize, n: u32) -> usize
     requires { at + 10 ≤ length out.old }
     ensures put { Puts (decimal n) at out.old result out.new }
@@ -37,7 +37,7 @@ pub(crate) fn put_number(out: &mut [u8], at: usize, n: u32) -> usize
 #[tactic(auto, using(crate::proofs::Puts::behind))]
 pub(crate) fn put_figure(out: &mut [u8], at: usize, n: u32) -> usize
     requires { at + 11 ≤ length out.old }
-    ensures put { Puts (32 ∷ decimal n) at out.old result out.new }
+    ensures put { Puts (codes " " ++ decimal n) at out.old result out.new }
     ensures short { result ≤ at + 11 }
 {
     out[at] = b' ';
