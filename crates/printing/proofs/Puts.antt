@@ -1,12 +1,11 @@
--- Bytes put one after another are their join put at once, and a numeral is put digit by digit.
-use Rattle.std.proofs.Common.{◌≡◌, ℕ, ◌+◌, ◌/◌, ◌%◌, ◌^◌, ◌<◌, ◌≤◌, List, [], ◌∷◌, ◌++◌, length, take, drop, set, decimal, sym, refl, ap, ◌∙◌, arith, length-append, take-append-drop, length-take, length-drop, append_assoc}
+-- Bytes put one after another are their join put at once.
+use Rattle.std.proofs.Common.{◌≡◌, ℕ, ◌+◌, ◌<◌, List, [], ◌∷◌, ◌++◌, length, take, drop, set, sym, ap, ◌∙◌, subst, arith, length-append, length-set, take-append-drop, length-take, length-drop, append_assoc}
 use Rattle.std.proofs.lemmas.List.{take_more_set, take_at, drop-set-lt, drop-drop}
-use Rattle.std.proofs.lemmas.Fmt.{decimal_step, decimal_digit, length-decimal-le}
 use Rattle.std.proofs.Math.Seq.{drop-append-add}
 use Rattle.printing.specs.Puts.{Puts}
 
 -- one byte
-one : (xs : List ℕ) (at v : ℕ) → at < length xs → Puts (v ∷ []) at xs (at + 1) (set xs at v)
+pub one : (xs : List ℕ) (at v : ℕ) → at < length xs → Puts (v ∷ []) at xs (at + 1) (set xs at v)
 unfolding Puts
 one xs at v lt = (
   omega arith,
@@ -52,25 +51,9 @@ four_joined a b c d w xs ys zs us vs at e f g h p q r s same =
 pub behind : (b xs zs : List ℕ) (at v f : ℕ) → at < length xs → Puts b (at + 1) (set xs at v) f zs → Puts (v ∷ b) at xs f zs
 behind b xs zs at v f lt q = both (v ∷ []) b xs (set xs at v) zs at (at + 1) f (one xs at v lt) q
 
--- a numeral of one digit
-pub digit : (n : ℕ) (xs : List ℕ) (at : ℕ) → n < 10 → at < length xs → Puts (decimal n) at xs (at + 1) (set xs at (48 + n))
-digit n xs at small lt = rw (decimal_digit n small) (one xs at (48 + n) lt)
-
--- a numeral, its last digit behind the others
-pub digits : (n : ℕ) (xs ys : List ℕ) (at e : ℕ) → 10 ≤ n → n < 2 ^ 32 → e < length ys → Puts (decimal (n / 10)) at xs e ys
-    → Puts (decimal n) at xs (e + 1) (set ys e (48 + n % 10))
-digits n xs ys at e big fits lt p =
-    joined (decimal (n / 10)) ((48 + n % 10) ∷ []) (decimal n) xs ys (set ys e (48 + n % 10)) at e (e + 1) p (one ys e (48 + n % 10) lt)
-    (decimal_step n big (omega arith))
-
--- how long it is: one byte, or one longer than without its last digit, and then not over nine
-pub one_long : (n : ℕ) → n < 10 → length (decimal n) ≡ 1
-one_long n small = ap length (decimal_digit n small)
-
-pub one_longer : (n : ℕ) → 10 ≤ n → n < 2 ^ 32 → length (decimal n) ≡ length (decimal (n / 10)) + 1
-one_longer n big fits = ap length (decimal_step n big (omega arith)) ∙ length-append (decimal (n / 10)) _
-
-pub nine_before : (n : ℕ) → n < 2 ^ 32 → length (decimal (n / 10)) ≤ 9
-nine_before n fits = length-decimal-le 9 (n / 10) (omega arith) (omega arith) (omega arith)
-
-pub ruleset numerals = (digit, digits, one_long, one_longer, nine_before)
+-- two bytes
+pub two : (xs : List ℕ) (at v w : ℕ) → at + 1 < length xs → Puts (v ∷ w ∷ []) at xs (at + 2) (set (set xs at v) (at + 1) w)
+two xs at v w lt =
+    let last = set (set xs at v) (at + 1) w in
+    let p = behind (w ∷ []) xs last at v (at + 1 + 1) (omega arith) (one (set xs at v) (at + 1) w (omega (arith, length-set xs at v))) in
+    subst (λ (e : ℕ). Puts (v ∷ w ∷ []) at xs e last) (omega arith) p

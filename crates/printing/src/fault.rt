@@ -6,8 +6,8 @@ ghost use Rattle.printing.specs.Puts.{Puts};
 use crate::put::{ROOM, put_bytes, put_figure};
 use rules::{Fault, Layer, Refusal};
 
-/// Prints the line of a fault, and answers how long it is. A buffer of fewer than 64 bytes is refused and left as it was; in any
-/// other the bytes past the line are left.
+/// Prints a fault as a line, and answers how long the line is: `FAULT`, the layer, the line at fault and the number of the refusal. A
+/// buffer of fewer than 64 bytes is refused and left as it was; in any other the bytes past the line are left.
 #[tactic(auto, unfolding(crate::specs::Puts::Puts))]
 pub fn print_fault(out: &mut [u8], fault: Fault) -> Result<usize, Refusal>
     ensures printed { Printed (fault_line fault) out.old result out.new }

@@ -1,4 +1,4 @@
-ghost use Rattle.std.specs.Prelude.{◌≡◌, ◌+◌, ◌≤◌, ◌++◌, length, codes, decimal};
+ghost use Rattle.std.specs.Prelude.{◌≡◌, ◌+◌, ◌/◌, ◌%◌, ◌<◌, ◌≤◌, [], ◌∷◌, ◌++◌, length, codes, decimal};
 ghost use Rattle.printing.specs.Puts.{Puts};
 
 // How many bytes a buffer must have for a line of any figures.
@@ -16,8 +16,21 @@ pub(crate) fn put_bytes(out: &mut [u8], at: usize, bytes: &[u8]) -> usize
     end
 }
 
+// Puts both digits of a number below 100 at an offset, and answers where they end.
+#[tactic(auto, using(crate::proofs::Puts::two))]
+fn put_two_digits(out: &mut [u8], at: usize, n: u32) -> usize
+    requires fits { at + 2 ≤ length out.old }
+    requires small { n < 100 }
+    ensures put { Puts ((48 + n / 10) ∷ (48 + n % 10) ∷ []) at out.old result out.new }
+    ensures end { result ≡ at + 2 }
+{
+    out[at] = b'0' + (n / 10) as u8;
+    out[at + 1] = b'0' + (n % 10) as u8;
+    at + 2
+}
+
 // Puts the numeral of n at an offset, and answers where it ends.
-#[tactic(auto, using(crate::proofs::Puts::numerals))]
+#[tactic(auto, using(crate::proofs::Numerals::numerals))]
 pub(crate) fn put_number(out: &mut [u8], at: usize, n: u32) -> usize
     requires { at + 10 ≤ length out.old }
     ensures put { Puts (decimal n) at out.old result out.new }
@@ -28,9 +41,11 @@ pub(crate) fn put_number(out: &mut [u8], at: usize, n: u32) -> usize
         out[at] = b'0' + n as u8;
         return at + 1;
     }
-    let end = put_number(out, at, n / 10);
-    out[end] = b'0' + (n % 10) as u8;
-    end + 1
+    if n < 100 {
+        return put_two_digits(out, at, n);
+    }
+    let end = put_number(out, at, n / 100);
+    put_two_digits(out, end, n % 100)
 }
 
 // Puts a space and the numeral of n at an offset, and answers where it ends.

@@ -9,8 +9,9 @@ use crate::put::{ROOM, put_bytes, put_figure, put_number};
 use history::Reply;
 use rules::{Refusal, StopFigures};
 
-/// Prints the line of the reply to a question, by its number, and answers how long it is. A buffer of fewer than 64 bytes is
-/// refused and left as it was; in any other the bytes past the line are left.
+/// Prints the reply to a question as a line, and answers how long the line is: the number of the question, then `OK` and the figures
+/// of the answer, or `NO` and the number of the refusal. A buffer of fewer than 64 bytes is refused and left as it was; in any other
+/// the bytes past the line are left.
 #[tactic(auto, unfolding(crate::specs::Puts::Puts))]
 pub fn print_reply(out: &mut [u8], question: u32, reply: Reply) -> Result<usize, Refusal>
     ensures printed { Printed (reply_line question (reply_told reply)) out.old result out.new }
