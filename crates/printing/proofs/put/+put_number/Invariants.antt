@@ -1,0 +1,4 @@
+use Rattle.printing.proofs.put.+put_number.Given as goal
+
+abbrev pub decreases-put_number : goal.decreases-put_number
+decreases-put_number l = l.n
