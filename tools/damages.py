@@ -233,7 +233,7 @@ def outcomes(which):
 
 
 def literal(text):
-    escapes = {10: r"\n", 13: r"\r", 9: r"\t", 0: r"\0", 34: r"\"", 92: r"\\"}
+    escapes = {10: r"\n", 13: r"\r", 9: r"\t", 0: r"\x00", 34: r"\"", 92: r"\\"}
     return "".join(escapes.get(b) or (chr(b) if 32 <= b < 127 else f"\\x{b:02x}") for b in text)
 
 

@@ -208,7 +208,7 @@ class Sheet:
         check(any(c[0] == "L" for c in self.train), 8)
         check(self.line, 9)
         check(self.holds(500, v, q, laws), 13)
-        x = max(x for x in range(500, 100_001, 500) if self.holds(x, v, q, laws))
+        x = next(x for x in range(100_000, 0, -500) if self.holds(x, v, q, laws))
         assert self.holds(x, v, q, laws, exactly=True)
         return x
 
