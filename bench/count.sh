@@ -38,7 +38,8 @@ for name in empty example eighth quarter half largest stops speeds masses unaske
     if [ -n "$ours" ]; then
         taken=$(count "$ours" "$file" "$scratch/ours.out")
         [ "$name" != empty ] || start=$taken
-        printf ' %10d | %5s | %6s |' "$taken" "$(ratio "$taken" "$plain")" "$(ratio $((taken - start)) $((plain - plain_start)))"
+        beyond=$(ratio $((taken - start)) $((plain - plain_start)))
+        printf ' %10d | %5s | %6s |' "$taken" "$(ratio "$taken" "$plain")" "$beyond"
         cmp -s "$scratch/plain.out" "$scratch/ours.out" || { echo " printed otherwise"; exit 1; }
     fi
     echo

@@ -71,9 +71,8 @@ def sound(r):
     return written(f"{r.choice('FPEHJ')} {distance}", points(r), vehicles, sections, questions).encode()
 
 
-FIGURES = [b"0", b"1", b"2", b"3", b"16", b"17", b"120", b"121", b"200", b"201", b"-1", b"-0", b"00", b"49", b"399", b"401", b"-401",
-           b"1600", b"1601", b"2001", b"4001", b"20001", b"1000000", b"1000001", b"9999999", b"10000000", b"-9999999", b"+1", b"",
-           b"L", b"W", b"S", b"V", b"M", b"F", b"X"]
+FIELDS = (b"0 1 2 3 16 17 120 121 200 201 -1 -0 00 49 399 401 -401 1600 1601 2001 4001 20001 1000000 1000001 9999999 10000000 "
+          b"-9999999 +1  L W S V M F X").split(b" ")
 
 
 def damaged(r, text):
@@ -100,7 +99,7 @@ def damaged(r, text):
     if sort == 7:
         return text + r.choice([b"\n", b" ", b"S 0 100 10\n", b"x", bytes(r.randrange(256) for _ in range(5))])
     fields = lines[k].split(b" ")
-    fields[r.randrange(len(fields))] = r.choice(FIGURES)
+    fields[r.randrange(len(fields))] = r.choice(FIELDS)
     lines[k] = b" ".join(fields)
     return b"\n".join(lines)
 
@@ -125,9 +124,11 @@ def main(program, count="2000", seed="1"):
             bad += 1
             print(f"{name}: {text[:200]!r}\n  expected {expected[:100]!r}\n  printed {done.stdout[:100]!r}, status "
                   f"{done.returncode}, {done.stderr[:100]!r}")
-        for line in expected.decode().splitlines():
-            words = line.split()
-            told[" ".join([words[0], words[1], words[3]] if words[0] == "FAULT" else [words[1], *words[2:3][:words[1] == "NO"]])] += 1
+        for words in map(str.split, expected.decode().splitlines()):
+            if words[0] == "FAULT":
+                told[f"FAULT {words[1]} {words[3]}"] += 1
+            else:
+                told["OK" if words[1] == "OK" else f"NO {words[2]}"] += 1
     print(", ".join(f"{what} {n}" for what, n in sorted(told.items())))
     print(f"{len(fixed)} fixed and {count} random files, {bad} not as expected")
     sys.exit(bad > 0)

@@ -180,11 +180,11 @@ def cases():
 # A choice for a table that has to be short.
 FEW = {
     "whole", "no text", "a line end alone", "no line end", "a zero byte in a field", "a byte order mark first",
-    "a byte of 255 for a letter", "line ends CR LF", "ends before the kind", "ends before the points", "ends before the vehicle",
-    "ends before the question", "last line unterminated", "a line left over", "a line left over, unterminated",
-    "an empty line left over", "a point too few", "a vehicle too many", "sections exchanged", "another name", "a longer name",
-    "a name alone", "two kinds", "no point", "17 points", "121 vehicles", "201 sections", "201 questions",
-    "a count of eight digits", "no vehicle", "no section", "no question", "a zero before a number", "minus 0",
+    "a byte of 255 for a letter", "line ends CR LF", "ends before the kind", "ends before the points",
+    "ends before the vehicle", "ends before the question", "last line unterminated", "a line left over",
+    "a line left over, unterminated", "an empty line left over", "a point too few", "a vehicle too many", "sections exchanged",
+    "another name", "a longer name", "a name alone", "two kinds", "no point", "17 points", "121 vehicles", "201 sections",
+    "201 questions", "a count of eight digits", "no vehicle", "no section", "no question", "a zero before a number", "minus 0",
     "minus before a length", "plus", "eight digits", "seven digits", "seven digits and a minus", "eight digits and a minus",
     "two spaces", "a space behind", "a space before", "a tab", "an empty line", "a field too few", "a field too many",
     "a kind outside its list", "a vehicle outside its list", "a question outside its list", "a speed with one number more",
@@ -208,8 +208,9 @@ def every_form():
             forms = {"a zero before": b"0" + old, "minus 0": b"-0", "minus": b"-" + old, "plus": b"+" + old,
                      "eight digits": b"10000000", "a letter": old + b"x", "no digit": b""}
             damaged = {form: good.replace(old, new) for form, new in forms.items()}
-            damaged |= {"a space before": b" " + good, "a space behind": good + b" ", "two spaces": good.replace(b" ", b"  ", 1),
-                        "a tab": good.replace(b" ", b"\t", 1), "a CR": good + b"\r", "an empty line": b"",
+            damaged |= {"a space before": b" " + good, "a space behind": good + b" ",
+                        "two spaces": good.replace(b" ", b"  ", 1), "a tab": good.replace(b" ", b"\t", 1),
+                        "a CR": good + b"\r", "an empty line": b"",
                         "a field too few": good.rsplit(b" ", 1)[0], "a field too many": good + b" 0",
                         "a zero byte": good + b"\0", "a byte of 128": good + b"\x80"}
             for form, new in damaged.items():

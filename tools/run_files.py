@@ -133,9 +133,10 @@ def files():
     edges = [0, 100, 200, 300, 400, 500, *range(550, 1601, 50)]
     yield "edges", written("P 4000", vehicles=["L 1000 800 1", "W 600 500 1"], sections=["20000 -13 777 345 0"], questions=[
         f"S 123 {v} 9" for e in edges for v in (e - 1, e, e + 1) if 0 <= v <= 1600])
-    yield "windows", written("F 400", sections=["500 0 0 0 0", "1 -400 0 0 0", "500 0 0 0 0", "400 100 300 250 0", "500 -3 0 0 0"],
-                             questions=[f"{s} {place} {'100 10' if s == 'S' else '10'}" for s in "SV" for place in (
-                                 0, 99, 100, 101, 500, 501, 502, 600, 601, 602, 1000, 1001, 1002, 1400, 1401, 1402, 1500, 1501, 1502)])
+    sections = ["500 0 0 0 0", "1 -400 0 0 0", "500 0 0 0 0", "400 100 300 250 0", "500 -3 0 0 0"]
+    places = [99, 500, 600, 1000, 1400, 1500]
+    yield "windows", written("F 400", sections=sections, questions=[
+        f"{s} {end + k} {'100 10' if s == 'S' else '10'}" for s in "SV" for end in places for k in range(-1, 4)])
     for metres in (400, 4000):
         yield f"braking distance {metres}", written(f"F {metres}", sections=["5000 -20 0 0 0"], questions=[
             *(f"V 1000 {g}" for g in range(1, 11)), "S 1000 1000 10", "S 1000 1001 10", "S 1001 100 10"])
@@ -143,10 +144,12 @@ def files():
     # Trains: without wagons, of many locomotives, with brakes in and out, the mass per wagon raised.
     asked = ["S 0 730 9", "V 0 9", "M 200 600", "M 0 50", "M 400 2000"]
     sections = ["3000 17 250 300 0", "2000 -35 0 0 1"]
-    trains = [("a locomotive alone", ["L 1380 420 1"]), ("a raised mass per wagon", ["L 1000 400 1", "W 600 200 1", "W 601 170 1"]),
+    trains = [("a locomotive alone", ["L 1380 420 1"]),
+              ("a raised mass per wagon", ["L 1000 400 1", "W 600 200 1", "W 601 170 1"]),
               ("many locomotives", ["L 2000 2000 1"] * 120), ("light vehicles", ["L 50 50 1", "W 50 0 0"]),
               ("heavy vehicles", ["L 2000 0 0", *["W 2000 900 1"] * 119]),
-              ("brakes in and out", ["L 1000 400 0", "W 600 200 1", "W 613 170 0", "W 587 3 1", "W 2000 2000 0", "L 1000 400 1"])]
+              ("brakes in and out", ["L 1000 400 0", "W 600 200 1", "W 613 170 0", "W 587 3 1", "W 2000 2000 0",
+                                     "L 1000 400 1"])]
     for name, vehicles in trains:
         yield name, written("F 2000", vehicles=vehicles, sections=sections, questions=asked)
 
@@ -155,7 +158,8 @@ def files():
     steep = ["500 0 250 300 0", "500 400 0 0 0"]
     stairs = [f"{100 * k} {1_000_000 - 60_000 * (k // 2)}" for k in range(16)]
     for name, points, sections in [
-        ("one point", ["0 1000000"], ["500 0 0 0 0"]), ("a table of 0", ["0 0"], ["500 0 0 0 0"]), ("stairs", stairs, ["500 12 3 299 1"]),
+        ("one point", ["0 1000000"], ["500 0 0 0 0"]), ("a table of 0", ["0 0"], ["500 0 0 0 0"]),
+        ("stairs", stairs, ["500 12 3 299 1"]),
         ("a stop", TABLE, ["1500 80 0 0 1"]), ("a stop on a fall", TABLE, ["1500 -300 0 0 1"]), ("a climb", stairs, steep),
         ("a long table", ["0 98765", "1 98765", "2 98764", "399 40001", "401 39999", "1600 1"], ["700 3 699 12345 0"]),
     ]:
