@@ -149,6 +149,8 @@ def cases():
                                         b"2000 -8 100 0 0", b"2000 -8 0 300 0", b"2000 -8 0 0 2"])]:
         for changed in lines:
             yield changed.decode(), at(line, changed), f"SHEET {line} {number}"
+    yield "vehicles at their limits", put({6: [b"VEH 3"], 7: [WHOLE[6], b"W 50 50 0", b"W 2000 0 1"]}), "1 OK 36006 25967 1"
+    yield "sections at their limits", put({8: [b"SEC 3"], 9: [WHOLE[8], b"1 -400 1 100 1", b"20000 400 20000 20000 0"]}), ANSWER
     yield "a line as long as L", put({2: [b"F 400"], 9: [b"400 -8 0 0 0"]}), ANSWER
     yield "L a metre longer than the line", put({2: [b"F 2001"]}), "1 NO 9"
 

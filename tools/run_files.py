@@ -116,6 +116,7 @@ def files():
     for name, vehicles in [("wagons alone", TRAIN[1:]), ("no vehicle", [])]:
         yield f"refused 8 by {name}", written(vehicles=vehicles, sections=["3000 0 0 0 0"],
                                               questions=["S 0 100 10", "V 0 10", "M 200 600", "S 0 1601 10", "S 3000 100 10"])
+    yield "refused 7 before 8, 8 before 9", written(vehicles=[], questions=["S 0 100 10", "V 0 10", "M 200 600", "M 1601 600"])
     yield "refused 9", written(sections=["1000 0 0 0 0", "1500 0 0 0 0"], questions=[
         "S 1500 100 10", "S 1501 100 10", "V 1500 10", "V 1501 10", "S 4000000 100 10"])
     yield "refused 9 without sections", written(questions=["S 0 100 10", "V 0 10", "M 200 600", "M 1601 600"])
@@ -128,6 +129,15 @@ def files():
     yield "refused 7 to 13", written(
         vehicles=["L 1000 50 1", "W 600 0 1"], sections=["3000 0 0 0 0", "1000 -400 0 0 0", "3000 80 0 0 1"],
         questions=["S 0 1601 10", "S 6001 100 10", "S 0 1600 2", "S 3000 100 10", "S 0 1600 10", "M 401 600", "S 0 300 10"])
+
+    # Brake forces of 1,001 to 997 milli; holding forces and distances to the unit, by curves that add from 0 to 199 milli.
+    yield "brakes that just suffice", written(vehicles=["L 1000 178 1", "W 600 0 1"], sections=["20000 0 0 0 0"],
+                                              questions=[f"S 0 {v} 1" for v in range(998, 1012)])
+    yield "forces that just suffice", written(sections=[f"2000 -382 {k} 350 0" for k in range(1, 200)],
+                                              questions=["V 500 5", *(f"S {2000 * k + 500} 100 5" for k in range(199))])
+    yield "distances that just suffice", written("J 400", vehicles=["L 2000 519 1"],
+                                                 sections=[f"1000 0 {k} 700 0" for k in range(1, 200)],
+                                                 questions=[f"S {1000 * k + 300} 215 10" for k in range(199)])
 
     # Speeds at and beside every edge; windows that touch a section; braking distances at their limits.
     edges = [0, 100, 200, 300, 400, 500, *range(550, 1601, 50)]
@@ -157,13 +167,16 @@ def files():
     asked = [f"M {v} {q}" for v in (0, 1, 99, 100, 101, 399, 400, 401, 1600) for q in (50, 611, 2000)]
     steep = ["500 0 250 300 0", "500 400 0 0 0"]
     stairs = [f"{100 * k} {1_000_000 - 60_000 * (k // 2)}" for k in range(16)]
+    long = ["0 98765", "1 98765", "2 98764", "399 40001", "401 39999", "1600 1"]
     for name, points, sections in [
         ("one point", ["0 1000000"], ["500 0 0 0 0"]), ("a table of 0", ["0 0"], ["500 0 0 0 0"]),
-        ("stairs", stairs, ["500 12 3 299 1"]),
-        ("a stop", TABLE, ["1500 80 0 0 1"]), ("a stop on a fall", TABLE, ["1500 -300 0 0 1"]), ("a climb", stairs, steep),
-        ("a long table", ["0 98765", "1 98765", "2 98764", "399 40001", "401 39999", "1600 1"], ["700 3 699 12345 0"]),
+        ("stairs", stairs, ["500 12 3 299 1"]), ("a stop", TABLE, ["1500 80 0 0 1"]),
+        ("a stop on a fall", TABLE, ["1500 -300 0 0 1"]), ("a climb", stairs, steep),
+        ("a long table", long, ["700 3 699 12345 0"]),
     ]:
         yield f"masses by {name}", written(points=points, sections=sections, questions=asked)
+    yield "masses by many weak locomotives", written(points=["0 640", "100 620"], vehicles=["L 2000 0 1"] * 120,
+                                                     sections=["500 0 0 0 0"], questions=[f"M {v} 611" for v in range(101)])
 
 
 def main(folder, which=None):
