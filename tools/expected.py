@@ -10,6 +10,7 @@
 """
 import sys
 from fractions import Fraction as F
+from functools import cache
 from math import ceil, floor
 
 KINDS = {"F": (7, 10), "P": (4, 5), "E": (2, 0), "H": (30, 0), "J": (60, 0), "combined": (3, 6)}
@@ -28,7 +29,7 @@ def check(yes, number):
 # ---- laws: at a speed (and a mass per wagon) the exact value, the one below, the one above, and the slack
 
 def rounded(exact):
-    return lambda *at: (exact(*at), floor(exact(*at)), ceil(exact(*at)), 1)
+    return cache(lambda *at: (exact(*at), floor(exact(*at)), ceil(exact(*at)), 1))
 
 
 cast_iron = rounded(lambda v: F(270_000 * (v + 1000), 5 * v + 1000))
@@ -78,6 +79,7 @@ def table(points):
 def scale(law, percent):
     check(1 <= percent <= 100, 14)
 
+    @cache
     def read(*at):
         exact, below, above, slack = law(*at)
         return exact * percent / 100, floor(F(below * percent, 100)), ceil(F(above * percent, 100)), slack + 1
@@ -101,6 +103,7 @@ def lesser(first, second):
     return read
 
 
+@cache
 def grade(s):
     length, i, curve, radius, _ = s
     return F(100 * i) + (F(700_000 * curve, length * radius) if curve else 0)
@@ -205,7 +208,7 @@ class Sheet:
         check(any(c[0] == "L" for c in self.train), 8)
         check(self.line, 9)
         check(self.holds(500, v, q, laws), 13)
-        x = max(x for x in range(500, 100_001, 500) if self.holds(x, v, q, laws))
+        x = next(x for x in range(100_000, 0, -500) if self.holds(x, v, q, laws))
         assert self.holds(x, v, q, laws, exactly=True)
         return x
 
@@ -557,5 +560,6 @@ def mixtures():
             print(f"  {told()}")
 
 
-{"mixtures": mixtures, "inspection": inspection, "refusals": refusals, "figures": figures, "readings": readings,
- "makers": makers}[sys.argv[1]]()
+if __name__ == "__main__":
+    {"mixtures": mixtures, "inspection": inspection, "refusals": refusals, "figures": figures, "readings": readings,
+     "makers": makers}[sys.argv[1]]()
