@@ -31,7 +31,7 @@ fn put_line(out: &mut [u8], fault: Fault) -> usize
 }
 
 // Puts all of the line but its end.
-#[tactic(auto, using(crate::proofs::Puts::three_joined))]
+#[tactic(auto, using(crate::proofs::Puts::three_joined), unfolding(rules::specs::Faults::fault_text))]
 fn put_fault(out: &mut [u8], fault: Fault) -> usize
     requires { 33 ≤ length out.old }
     ensures put { Puts (fault_text fault) 0 out.old result out.new }

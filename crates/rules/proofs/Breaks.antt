@@ -37,7 +37,7 @@ none_of k p (n ∷ rest) h e =
     let parts = and_parts (may_follow p n) (orderly_after n rest) e in
     rw (lt-ltb k 16 (omega arith), parts.0) (none_of (k + 1) n rest (omega arith) parts.1)
 
-lawful_unbroken : (ps : List PointFigures) → lawful_table ps ≡ true → first_break ps ≡ None
+pub lawful_unbroken : (ps : List PointFigures) → lawful_table ps ≡ true → first_break ps ≡ None
 lawful_unbroken [] e = absurd (both_ways _ refl e)
 lawful_unbroken (p ∷ rest) e =
     let parts = and_parts (may_begin p) (leb (length rest) 15 && orderly_after p rest) e in

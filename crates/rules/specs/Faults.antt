@@ -20,6 +20,6 @@ layer_text Law = codes "LAW"
 layer_text Sheet = codes "SHEET"
 
 -- FAULT, layer, line and number
-abbrev pub fault_text : Fault → List ℕ
+unfoldable pub fault_text : Fault → List ℕ
 fault_text f =
     codes "FAULT " ++ (layer_text (layer_of f.refusal) ++ (codes " " ++ (decimal f.line ++ (codes " " ++ decimal (number_of f.refusal)))))

@@ -48,6 +48,7 @@ impl Fault {
 impl fmt::Display for Fault {
     ghost output = { λ x. Some (fault_text x) };
 
+    #[tactic(auto, unfolding(crate::specs::Faults::fault_text))]
     fn fmt<W: fmt::Write>(&self, f: &mut fmt::Formatter<W>) -> fmt::Result {
         let layer = self.layer();
         let number = self.refusal.number();

@@ -19,6 +19,11 @@ pub record Request : Type 0 where
 abbrev pub request : KindLetter → List PointFigures → List Question → Request
 request k ps qs = record { kind = k; points = ps; questions = qs }
 
+-- the questions of a run file, none where nothing was read
+abbrev pub questions_of : Option Request → List Question
+questions_of (Some q) = q.questions
+questions_of None = []
+
 -- its five sections in their order
 abbrev pub run_plan : Plan
 run_plan = first head_sort (first point_sort (first vehicle_sort (first section_sort (first question_sort nothing))))

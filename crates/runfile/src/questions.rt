@@ -1,4 +1,4 @@
-ghost use Rattle.std.specs.Prelude.{◌≡◌, ◌≤◌, List, [], vec_len, vec_capacity, IfOk};
+ghost use Rattle.std.specs.Prelude.{◌≡◌, ◌≤◌, List, [], length, vec_len, vec_capacity, IfOk};
 ghost use Rattle.rules.specs.declared.figures.Question.{Question as Asked};
 ghost use Rattle.runfile.specs.Sorts.{question_sort};
 ghost use Rattle.text.specs.Numerals.{Reads};
@@ -100,7 +100,8 @@ impl Questions {
 
     /// The questions in order.
     pub fn questions(&self) -> &[Question]
-        ensures { result.now ≡ self.now }
+        ensures questions { result.now ≡ self.now }
+        ensures few { length self.now ≤ 200 }
     {
         &self.questions
     }

@@ -1,9 +1,10 @@
-ghost use Rattle.std.specs.Prelude.{◌≡◌, true, ⊤, [], Some, None, Ok, Err, IfOk, MatchResult, Option};
+ghost use Rattle.std.specs.Prelude.{◌≡◌, ◌≤◌, true, ⊤, [], length, Some, None, Ok, Err, IfOk, MatchResult, Option};
 ghost use Rattle.std.specs.Option.{option_map, IfSome};
 ghost use Rattle.rules.specs.declared.fault.Fault.{Fault as FileFault};
 ghost use Rattle.rules.specs.Book.{Book};
 ghost use Rattle.rules.specs.Table.{lawful_table};
-ghost use Rattle.runfile.specs.Run.{Request, request, IsRun, IsFault, ReadFrom};
+ghost use Rattle.pull_table.specs.Tables.{points_of};
+ghost use Rattle.runfile.specs.Run.{Request, request, questions_of, IsRun, IsFault, ReadFrom};
 
 use crate::head::read_head;
 use crate::points::{PointLine, Points};
@@ -47,6 +48,36 @@ impl RunFile {
             points,
             questions,
         })
+    }
+
+    /// The kind of brake of the file.
+    pub fn kind(&self) -> Option<KindLetter>
+        ensures { result ≡ option_map (λ q. q.kind) self.now }
+    {
+        self.kind
+    }
+
+    /// The pull table of the file.
+    #[tactic(auto, using(rules::proofs::Breaks::lawful_unbroken))]
+    pub fn table(&self) -> Option<PullTable>
+        ensures { option_map points_of result ≡ option_map (λ q. q.points) self.now }
+    {
+        self.kind?;
+        let Ok(table) = PullTable::new(self.points.points()) else {
+            unreachable!()
+        };
+        Some(table)
+    }
+
+    /// The questions of the file in their order.
+    pub fn questions(&self) -> &[Question]
+        ensures questions { result.now ≡ questions_of self.now }
+        ensures few { length result.now ≤ 200 }
+    {
+        match self.kind {
+            Some(_) => self.questions.questions(),
+            None => &[],
+        }
     }
 
     /// Reads a run file: its train, line and braking distance onto the sheet, whatever that held before, and the rest into this.

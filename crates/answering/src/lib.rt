@@ -1,0 +1,8 @@
+// Run files answered: from the bytes of a run file to the lines of its answers.
+#![tactic(auto)]
+
+pub mod equipment;
+pub mod output;
+
+pub use equipment::Equipment;
+pub use output::Output;
