@@ -3,6 +3,8 @@
 
 pub mod equipment;
 pub mod output;
+pub mod reckoner;
 
 pub use equipment::Equipment;
 pub use output::Output;
+pub use reckoner::Reckoner;
