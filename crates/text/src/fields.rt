@@ -18,7 +18,9 @@ pub(crate) fn cut(text: &[u8], mark: u8) -> Option<(&[u8], &[u8])>
 
 /// A number with the space after it, and what follows.
 pub fn leading_number(text: &[u8]) -> Result<(u32, &[u8]), Malformed>
-    ensures { MatchResult result (λ p. Leads text.now p.0 p.1.now) (λ _. (n : ℕ) (rest : List ℕ) → Leads text.now n rest → ⊥) }
+    ensures { MatchResult result
+        (λ p. Leads text.now p.0 p.1.now)
+        (λ _. (n : ℕ) (rest : List ℕ) → Leads text.now n rest → ⊥) }
 {
     let Some((field, rest)) = cut(text, b' ') else {
         return Err(Malformed);
@@ -31,7 +33,9 @@ pub fn leading_number(text: &[u8]) -> Result<(u32, &[u8]), Malformed>
 
 /// A signed number with the space after it, and what follows.
 pub fn leading_signed(text: &[u8]) -> Result<(i32, &[u8]), Malformed>
-    ensures { MatchResult result (λ p. LeadsSigned text.now p.0 p.1.now) (λ _. (z : ℤ) (rest : List ℕ) → LeadsSigned text.now z rest → ⊥) }
+    ensures { MatchResult result
+        (λ p. LeadsSigned text.now p.0 p.1.now)
+        (λ _. (z : ℤ) (rest : List ℕ) → LeadsSigned text.now z rest → ⊥) }
 {
     let Some((field, rest)) = cut(text, b' ') else {
         return Err(Malformed);

@@ -1,6 +1,6 @@
 use Rattle.std.proofs.Common.{◌≡◌, ◌∷◌, ◌++◌, decimal, arith}
 use Rattle.text.specs.Numerals.{Lacks}
-use Rattle.text.proofs.Parted.{not_lacks, same_cut, decimal_lacks}
+use Rattle.text.proofs.Cuts.{not_lacks, same_cut, decimal_lacks}
 use Rattle.text.proofs.fields.leading_number.Goals as goal
 
 pub returns-in_default : goal.returns-in_default

@@ -1,7 +1,7 @@
 use Rattle.std.proofs.Common.{◌≡◌, ◌∷◌, ◌++◌, arith}
 use Rattle.std.specs.Fmt.{signed_decimal}
 use Rattle.text.specs.Numerals.{Lacks}
-use Rattle.text.proofs.Parted.{not_lacks, same_cut, signed_lacks}
+use Rattle.text.proofs.Cuts.{not_lacks, same_cut, signed_lacks}
 use Rattle.text.proofs.fields.leading_signed.Goals as goal
 
 pub returns-in_default : goal.returns-in_default

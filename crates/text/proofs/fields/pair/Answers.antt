@@ -1,5 +1,5 @@
 use Rattle.std.proofs.Common.{decimal}
-use Rattle.text.proofs.Parted.{leads_same}
+use Rattle.text.proofs.Cuts.{leads_same}
 use Rattle.text.proofs.fields.pair.Goals as goal
 
 pub returns-in_default-number : goal.returns-in_default-number

@@ -1,5 +1,5 @@
 use Rattle.std.proofs.Common.{rules}
-use Rattle.text.proofs.Parted.{only_one}
+use Rattle.text.proofs.Patterns.{only_one}
 use Rattle.text.proofs.fields.switch.Goals as goal
 
 pub returns-in-48 : goal.returns-in-48

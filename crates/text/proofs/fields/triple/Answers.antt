@@ -1,6 +1,6 @@
 use Rattle.std.proofs.Common.{[], ◌∷◌, decimal}
 use Rattle.text.specs.Fields.{spaced}
-use Rattle.text.proofs.Parted.{leads_same}
+use Rattle.text.proofs.Cuts.{leads_same}
 use Rattle.text.proofs.fields.triple.Goals as goal
 
 pub returns-in_default-pair : goal.returns-in_default-pair

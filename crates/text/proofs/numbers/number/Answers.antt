@@ -2,7 +2,7 @@ use Rattle.std.proofs.Common.{◌≡◌, length, get_or, take, arith}
 use Rattle.std.specs.Str.Parse.{AllDigits, digits_value}
 use Rattle.std.proofs.lemmas.List.{take_all}
 use Rattle.text.proofs.numbers.number.Goals.{else-count-gt1-via-then-count-gt1+else-field-eq48, else-count-gt1-via-else-count-gt1}
-use Rattle.text.proofs.Written.{numeral_short, numeral_digits, numeral_byte, numeral_zero, numeral_from_digits, front_small, front_more}
+use Rattle.text.proofs.Numerals.{numeral_short, numeral_digits, numeral_byte, numeral_zero, numeral_from_digits, front_small, front_more}
 use Rattle.text.proofs.numbers.number.Goals as goal
 
 pub returns-then-count-eq0 : goal.returns-then-count-eq0

@@ -1,7 +1,8 @@
 use Rattle.std.proofs.Common.{◌≡◌, ℕ, ◌-◌, ◌<◌, List, ◌∷◌, length, get_or, take, drop, pos, ◌-ℤ◌, neg_ℤ, arith, w32, to_z, of_z, rules}
 use borrow.Author.Differences.{ints}
 use Rattle.std.proofs.lemmas.List.{take_rest}
-use Rattle.text.proofs.Written.{after_first, minus_reads, minus_writes, numeral_same}
+use Rattle.text.proofs.Patterns.{after_first}
+use Rattle.text.proofs.Numerals.{minus_reads, minus_writes, numeral_same}
 use Rattle.text.proofs.numbers.signed_number.Goals as goal
 
 -- the pattern's minus and the rest

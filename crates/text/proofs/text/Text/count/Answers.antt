@@ -1,5 +1,5 @@
 use Rattle.std.proofs.Common.{inl, inr, arith}
-use Rattle.text.proofs.Growth.{count_of}
+use Rattle.text.proofs.Sections.{count_of}
 use Rattle.text.proofs.text.Text.count.Goals as goal
 
 -- a heading that tells a count has its numeral after the name

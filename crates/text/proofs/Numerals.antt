@@ -1,5 +1,5 @@
--- Lemmas on numerals of at most seven digits.
-use Rattle.std.proofs.Common.{◌≡◌, ℕ, zero, suc, ◌+◌, ◌-◌, ◌*◌, ◌^◌, ◌<◌, ◌≤◌, List, [], ◌∷◌, length, get_or, take, drop, ℤ, pos, negsuc, neg_ℤ, decimal, sym, refl, ap, ◌∙◌, ⊎_elim, arith, length-take, rules}
+-- Numerals of at most seven digits.
+use Rattle.std.proofs.Common.{◌≡◌, ℕ, zero, suc, ◌+◌, ◌-◌, ◌*◌, ◌^◌, ◌<◌, ◌≤◌, List, ◌∷◌, length, get_or, take, ℤ, pos, negsuc, neg_ℤ, decimal, sym, refl, ap, ◌∙◌, ⊎_elim, arith, length-take, rules}
 use Rattle.std.specs.Int.{IsInRange}
 use Rattle.std.specs.Char.{digit_value as digitValue}
 use Rattle.std.specs.Str.Parse.{AllDigits, digits_value}
@@ -18,6 +18,7 @@ pub numeral_digits : (f : List ℕ) (n : ℕ) → Numeral f n → (0 < length f)
 numeral_digits f n (small, e) =
     let r = decimal_is_IsNumeral n (fits64 n small) in rw e (r.0.0, r.0.1, r.1)
 
+-- it is short
 pub numeral_short : (f : List ℕ) (n : ℕ) → Numeral f n → length f ≤ 7
 numeral_short f n (small, e) = rw e (length-decimal-le 7 n (omega arith) small (fits64 n small))
 
@@ -25,28 +26,37 @@ numeral_short f n (small, e) = rw e (length-decimal-le 7 n (omega arith) small (
 pub numeral_byte : (f : List ℕ) (n i : ℕ) → Numeral f n → i < length f → IsInRange 48 57 (get_or f i 0)
 numeral_byte f n i h l = digit_at f i (numeral_digits f n h).1 l
 
-pub numeral_first : (f : List ℕ) (n : ℕ) → Numeral f n → IsInRange 48 57 (get_or f 0 0)
+numeral_first : (f : List ℕ) (n : ℕ) → Numeral f n → IsInRange 48 57 (get_or f 0 0)
 numeral_first f n h = numeral_byte f n 0 h (numeral_digits f n h).0
 
 -- only the numeral of 0 begins with a zero
 pub numeral_zero : (f : List ℕ) (n : ℕ) → Numeral f n → get_or f 0 0 ≡ 48 → length f ≡ 1
 numeral_zero f n (small, e) z =
-    ⊎_elim (λ tiny. ap length (e ∙ decimal_digit n tiny)) (λ large. let p : 48 < get_or (decimal n) 0 0 = first_decimal n (omega arith) (fits64 n small) in absurd (omega (arith, ap (λ l. get_or l 0 0) e))) (cases_lt n 10)
+    ⊎_elim (λ tiny. ap length (e ∙ decimal_digit n tiny)) large (cases_lt n 10)
+  where
+    large : 10 ≤ n → length f ≡ 1
+    large l =
+        let p : 48 < get_or (decimal n) 0 0 = first_decimal n (omega arith) (fits64 n small) in
+        absurd (omega (arith, ap (λ l. get_or l 0 0) e))
 
--- digits with no leading zero are a numeral
-pub numeral_from_digits : (f : List ℕ) → AllDigits 10 f → 0 < length f → length f ≤ 7 → (get_or f 0 0 ≡ 48 → length f ≡ 1) → Numeral f (digits_value 10 f)
+-- digits without a leading zero are a numeral
+pub numeral_from_digits : (f : List ℕ) → AllDigits 10 f → 0 < length f → length f ≤ 7 → (get_or f 0 0 ≡ 48 → length f ≡ 1)
+    → Numeral f (digits_value 10 f)
 numeral_from_digits f ds some short lead =
     let small : digits_value 10 f < 10 ^ 7 = digits_value_short (numerals_by_value _ tells_digits) f 7 ds short
     in (small, sym (decimal-digits_value (numerals_by_value _ tells_digits) f ds some lead (omega arith)))
 
--- a loop over the bytes of a field: one digit more
-pub digit_value : (b : ℕ) → IsInRange 48 57 b → digitValue b ≡ b - 48
+-- what a digit adds
+digit_value : (b : ℕ) → IsInRange 48 57 b → digitValue b ≡ b - 48
 digit_value b h = search rules
 
+-- the first digits of a field, and one digit more
 pub front_small : (f : List ℕ) (i k : ℕ) → i ≤ k → AllDigits 10 (take i f) → digits_value 10 (take i f) < 10 ^ k
 front_small f i k l ds = digits_value_short (numerals_by_value _ tells_digits) (take i f) k ds (simp length-take (omega arith))
 
-pub front_more : (f : List ℕ) (i n d : ℕ) → i < length f → IsInRange 48 57 (get_or f i 0) → d ≡ get_or f i 0 - 48 → AllDigits 10 (take i f) × (n ≡ digits_value 10 (take i f)) → AllDigits 10 (take (i + 1) f) × (n * 10 + d ≡ digits_value 10 (take (i + 1) f))
+pub front_more : (f : List ℕ) (i n d : ℕ) → i < length f → IsInRange 48 57 (get_or f i 0) → d ≡ get_or f i 0 - 48
+    → AllDigits 10 (take i f) × (n ≡ digits_value 10 (take i f))
+    → AllDigits 10 (take (i + 1) f) × (n * 10 + d ≡ digits_value 10 (take (i + 1) f))
 front_more f i n d l isDigit dIs (ds, e) =
     let v = digit_value (get_or f i 0) isDigit
     in (digits_more 10 f i l ds (omega arith), omega (arith, digits_value_more 10 f i l))
@@ -54,11 +64,6 @@ front_more f i n d l isDigit dIs (ds, e) =
 -- one text writes one number
 pub numeral_same : (f : List ℕ) (m n : ℕ) → Numeral f m → Numeral f n → m ≡ n
 numeral_same f m n a b = omega (arith, (numeral_digits f m a).2, (numeral_digits f n b).2)
-
--- what a slice pattern with one named byte says
-pub after_first : (xs : List ℕ) (a : ℕ) → 0 < length xs → get_or xs 0 0 ≡ a → xs ≡ a ∷ drop 1 xs
-after_first [] a some e = absurd (omega arith)
-after_first (x ∷ xs) a some e = ap (λ y. y ∷ xs) e
 
 -- after a minus stands the numeral of a number above 0
 pub minus_reads : (f r : List ℕ) (z : ℤ) → f ≡ 45 ∷ r → SignedNumeral f z → (m : ℕ) × (0 < m) × Numeral r m
