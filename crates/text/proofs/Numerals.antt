@@ -1,5 +1,5 @@
 -- Numerals of at most seven digits.
-use Rattle.std.proofs.Common.{◌≡◌, ℕ, zero, suc, ◌+◌, ◌-◌, ◌*◌, ◌^◌, ◌<◌, ◌≤◌, List, ◌∷◌, length, get_or, take, ℤ, pos, negsuc, neg_ℤ, decimal, sym, refl, ap, ◌∙◌, ⊎_elim, arith, length-take, rules}
+use Rattle.std.proofs.Common.{◌≡◌, ℕ, zero, suc, ◌+◌, ◌-◌, ◌*◌, ◌^◌, ◌<◌, ◌≤◌, List, ◌∷◌, length, get_or, take, ℤ, pos, negsuc, Ok, Err, decimal, Result, sym, refl, ap, ◌∙◌, ⊎_elim, arith, length-take, rules}
 use Rattle.std.specs.Int.{IsInRange}
 use Rattle.std.specs.Char.{digit_value as digitValue}
 use Rattle.std.specs.Str.Parse.{AllDigits, digits_value}
@@ -7,7 +7,8 @@ use Rattle.std.proofs.lemmas.Bool.{cases_lt}
 use Rattle.std.proofs.lemmas.Int.Digits.{digits_value_more, digits_more}
 use Rattle.std.proofs.lemmas.Str.Parse.{numerals_by_value, tells_digits, digit_at, digits_value_short}
 use Rattle.std.proofs.lemmas.Fmt.{length-decimal-le, decimal_digit, first_decimal, decimal_is_IsNumeral, decimal-digits_value}
-use Rattle.text.specs.Numerals.{Numeral, SignedNumeral}
+use Rattle.text.specs.Numerals.{Numeral, SignedNumeral, Plain, ValueOf, Below, Reads}
+use Rattle.text.specs.declared.malformed.Malformed.{Malformed}
 
 -- a numeral's value fits 64 bits
 fits64 : (n : ℕ) → n < 10 ^ 7 → n < 2 ^ 64
@@ -65,12 +66,24 @@ front_more f i n d l isDigit dIs (ds, e) =
 pub numeral_same : (f : List ℕ) (m n : ℕ) → Numeral f m → Numeral f n → m ≡ n
 numeral_same f m n a b = omega (arith, (numeral_digits f m a).2, (numeral_digits f n b).2)
 
--- after a minus stands the numeral of a number above 0
-pub minus_reads : (f r : List ℕ) (z : ℤ) → f ≡ 45 ∷ r → SignedNumeral f z → (m : ℕ) × (0 < m) × Numeral r m
-minus_reads f r (pos n) e h =
-    let first : get_or f 0 0 ≡ 45 = ap (λ l. get_or l 0 0) e in absurd (omega (arith, numeral_first f n h))
-minus_reads f r (negsuc n) e (small, is) = (suc n, omega arith, (small, cc))
+-- a numeral is plain, and a plain field of digits is a numeral
+pub numeral_plain : (f : List ℕ) (n : ℕ) → Numeral f n → Plain f
+numeral_plain f n h = record { some = (numeral_digits f n h).0; few = numeral_short f n h; lead = numeral_zero f n h }
 
-pub minus_writes : (f r : List ℕ) (n : ℕ) → f ≡ 45 ∷ r → (n ≡ 0 → ⊥) → Numeral r n → SignedNumeral f (neg_ℤ (pos n))
-minus_writes f r zero e some h = absurd (some refl)
-minus_writes f r (suc n) e some (small, is) = (small, cc)
+pub plain_numeral : (f : List ℕ) (r : Result ℕ Malformed) → Plain f → Reads (ValueOf f) r → Reads (Numeral f) r
+plain_numeral f (Ok n) plain (ds, e) = rw e (numeral_from_digits f ds plain.some plain.few plain.lead)
+plain_numeral f (Err e) plain none = λ n h. let d = numeral_digits f n h in none n (d.1, sym d.2)
+
+-- after a minus stands the numeral of a number above 0
+pub minus_reads : (f r : List ℕ) (result : Result ℤ Malformed) → f ≡ 45 ∷ r → Reads (Below r) result → Reads (SignedNumeral f) result
+minus_reads f r (Ok z) e below = writes f r z e below
+  where
+    writes : (f r : List ℕ) (z : ℤ) → f ≡ 45 ∷ r → Below r z → SignedNumeral f z
+    writes f r z e (zero, some, h, is) = absurd (omega arith)
+    writes f r z e (suc n, some, (small, digits), is) = rw is (small, cc)
+minus_reads f r (Err e) is none = λ z h. none z (reads f r z is h)
+  where
+    reads : (f r : List ℕ) (z : ℤ) → f ≡ 45 ∷ r → SignedNumeral f z → Below r z
+    reads f r (pos n) e h =
+        let first : get_or f 0 0 ≡ 45 = ap (λ l. get_or l 0 0) e in absurd (omega (arith, numeral_first f n h))
+    reads f r (negsuc n) e (small, is) = (suc n, omega arith, (small, cc), refl)

@@ -2,7 +2,7 @@ ghost use Rattle.std.specs.Prelude.{◌≡◌, ℕ, List, [], ◌∷◌, ◌++�
 ghost use Rattle.text.specs.Numerals.{Reads};
 ghost use Rattle.text.specs.Sorts.{Sort, Says, NamedBefore, Stored};
 
-use crate::numbers::Malformed;
+use crate::malformed::Malformed;
 use rules::Refusal;
 
 /// A sort of line of a section, as what one such line says.

@@ -2,7 +2,8 @@ ghost use Rattle.std.specs.Prelude.{◌≡◌, ℕ, List, ℤ, MatchOption, Matc
 ghost use Rattle.text.specs.Numerals.{Reads, Lacks, Cut};
 ghost use Rattle.text.specs.Fields.{Leads, LeadsSigned, Two, Three, flag};
 
-use crate::numbers::{Malformed, number, signed_number};
+use crate::malformed::Malformed;
+use crate::numbers::{number, signed_number};
 
 // What stands before the first `mark`, and what stands after it.
 pub(crate) fn cut(text: &[u8], mark: u8) -> Option<(&[u8], &[u8])>
