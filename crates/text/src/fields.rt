@@ -74,6 +74,7 @@ pub fn triple(text: &[u8]) -> Result<(u32, u32, u32), Malformed>
 }
 
 /// What a field of 1 or 0 says: 1 is yes.
+#[tactic(auto, using(crate::proofs::Patterns::only_one))]
 pub fn switch(field: &[u8]) -> Result<bool, Malformed>
     ensures { Reads (λ b. field.now ≡ flag b) result }
 {
