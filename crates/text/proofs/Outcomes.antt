@@ -1,5 +1,5 @@
 -- A whole text has one outcome.
-use Rattle.std.proofs.Common.{◌≡◌, ℕ, ◌+◌, List, length, sym, refl, ap, ◌∙◌, subst, inl, inr, arith}
+use Rattle.std.proofs.Common.{◌≡◌, ℕ, ◌+◌, ◌≤◌, List, length, sym, refl, ap, ◌∙◌, subst, inl, inr, arith}
 use Rattle.rules.specs.declared.fault.Fault.{Fault}
 use Rattle.rules.specs.declared.refusal.Refusal.{Refusal}
 use Rattle.text.specs.Sorts.{Sort, Read, Wrong}
@@ -74,6 +74,9 @@ accepted_good (first s plan) t (xs, es) (rest, read, ok) =
     let section = read.section in
     let follows = more.1 in
     ((read.good, more.0), cc)
+
+pub accepted_accepts : (plan : Plan) (t : List ℕ) (es : Entries plan) → length t ≤ 65536 → Accepted plan t es → Accepts plan t es
+accepted_accepts plan t es short ok = let e = accepted_good plan t es ok in record { short = short; good = e.0; is = e.1 }
 
 -- for clear sorts of line a text has one outcome
 pub one_outcome : (plan : Plan) → ClearAll plan → (text : List ℕ) → OneOutcome plan text
