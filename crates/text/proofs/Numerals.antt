@@ -44,8 +44,8 @@ numeral_zero f n (small, e) z =
 pub numeral_from_digits : (f : List ℕ) → AllDigits 10 f → 0 < length f → length f ≤ 7 → (get_or f 0 0 ≡ 48 → length f ≡ 1)
     → Numeral f (digits_value 10 f)
 numeral_from_digits f ds some short lead =
-    let small : digits_value 10 f < 10 ^ 7 = digits_value_short (numerals_by_value _ tells_digits) f 7 ds short
-    in (small, sym (decimal-digits_value (numerals_by_value _ tells_digits) f ds some lead (omega arith)))
+    let small : digits_value 10 f < 10 ^ 7 = digits_value_short (numerals_by_value _ tells_digits) f 7 ds short in
+    (small, sym (decimal-digits_value (numerals_by_value _ tells_digits) f ds some lead (omega arith)))
 
 -- what a digit adds
 digit_value : (b : ℕ) → IsInRange 48 57 b → digitValue b ≡ b - 48
@@ -59,8 +59,8 @@ pub front_more : (f : List ℕ) (i n d : ℕ) → i < length f → IsInRange 48 
     → AllDigits 10 (take i f) × (n ≡ digits_value 10 (take i f))
     → AllDigits 10 (take (i + 1) f) × (n * 10 + d ≡ digits_value 10 (take (i + 1) f))
 front_more f i n d l isDigit dIs (ds, e) =
-    let v = digit_value (get_or f i 0) isDigit
-    in (digits_more 10 f i l ds (omega arith), omega (arith, digits_value_more 10 f i l))
+    let v = digit_value (get_or f i 0) isDigit in
+    (digits_more 10 f i l ds (omega arith), omega (arith, digits_value_more 10 f i l))
 
 -- one text writes one number
 pub numeral_same : (f : List ℕ) (m n : ℕ) → Numeral f m → Numeral f n → m ≡ n

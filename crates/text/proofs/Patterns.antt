@@ -8,7 +8,7 @@ only_one [] a l p = absurd (omega arith)
 only_one (x ∷ []) a l p = cc
 only_one (x ∷ (y ∷ ys)) a l p = absurd (omega arith)
 
--- one, two or four bytes, and the rest
+-- one byte or two, and the rest
 pub after_first : (xs : List ℕ) (a : ℕ) → 1 ≤ length xs → get_or xs 0 0 ≡ a → xs ≡ a ∷ take (length xs - 1) (drop 1 xs)
 after_first xs a some e = rw take_rest (go xs some e)
   where
@@ -16,22 +16,11 @@ after_first xs a some e = rw take_rest (go xs some e)
     go [] l p = absurd (omega arith)
     go (w ∷ zs) l p = cc
 
-pub after_two : (xs : List ℕ) (a b : ℕ) → 2 ≤ length xs → get_or xs 0 0 ≡ a → get_or xs 1 0 ≡ b → xs ≡ a ∷ (b ∷ take (length xs - 2) (drop 2 xs))
+pub after_two : (xs : List ℕ) (a b : ℕ) → 2 ≤ length xs → get_or xs 0 0 ≡ a → get_or xs 1 0 ≡ b
+    → xs ≡ a ∷ (b ∷ take (length xs - 2) (drop 2 xs))
 after_two xs a b l p q = rw take_rest (go xs l p q)
   where
     go : (ys : List ℕ) → 2 ≤ length ys → get_or ys 0 0 ≡ a → get_or ys 1 0 ≡ b → ys ≡ a ∷ (b ∷ drop 2 ys)
     go [] l p q = absurd (omega arith)
     go (w ∷ []) l p q = absurd (omega arith)
     go (w ∷ (x ∷ zs)) l p q = cc
-
-pub after_four : (xs : List ℕ) (a b c d : ℕ) → 4 ≤ length xs → get_or xs 0 0 ≡ a → get_or xs 1 0 ≡ b → get_or xs 2 0 ≡ c
-    → get_or xs 3 0 ≡ d → xs ≡ a ∷ (b ∷ (c ∷ (d ∷ take (length xs - 4) (drop 4 xs))))
-after_four xs a b c d l p q r s = rw take_rest (go xs l p q r s)
-  where
-    go : (ys : List ℕ) → 4 ≤ length ys → get_or ys 0 0 ≡ a → get_or ys 1 0 ≡ b → get_or ys 2 0 ≡ c → get_or ys 3 0 ≡ d
-        → ys ≡ a ∷ (b ∷ (c ∷ (d ∷ drop 4 ys)))
-    go [] l p q r s = absurd (omega arith)
-    go (w ∷ []) l p q r s = absurd (omega arith)
-    go (w ∷ (x ∷ [])) l p q r s = absurd (omega arith)
-    go (w ∷ (x ∷ (y ∷ []))) l p q r s = absurd (omega arith)
-    go (w ∷ (x ∷ (y ∷ (z ∷ zs)))) l p q r s = cc
