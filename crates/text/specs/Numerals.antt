@@ -1,7 +1,7 @@
 -- How a number stands in a field.
 use Rattle.std.specs.Prelude.{◌≡◌, ℕ, suc, ◌^◌, ◌<◌, ◌≤◌, List, ◌∷◌, ◌++◌, length, get_or, ℤ, pos, negsuc, neg_ℤ, Ok, Err, decimal, Result, ◌≢◌}
 use Rattle.std.specs.Fmt.{signed_decimal}
-use Rattle.std.specs.List.{AllByRecursion as All}
+use Rattle.std.specs.List.{AllByRecursion}
 use Rattle.std.specs.Str.Parse.{AllDigits, digits_value}
 
 -- n is written with at most seven digits
@@ -41,7 +41,7 @@ Reads {X = X} Means (Err e) = (x : X) → Means x → ⊥
 
 -- mark does not stand in text
 abbrev pub Lacks : ℕ → List ℕ → Type 0
-Lacks mark text = All (λ b. b ≢ mark) text
+Lacks mark text = AllByRecursion (λ b. b ≢ mark) text
 
 -- mark first stands in text between front and rest
 pub record Cut (mark : ℕ) (text front rest : List ℕ) : Type 0 where
