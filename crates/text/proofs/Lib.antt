@@ -1,5 +1,7 @@
-pub mod Written
-pub mod Parted
-pub mod Growth
+pub mod Numerals
+pub mod Cuts
+pub mod Patterns
+pub mod Sections
 pub mod Unique
 pub mod Outcomes
+pub mod Legible

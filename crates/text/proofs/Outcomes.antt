@@ -1,7 +1,8 @@
 -- A whole text has one outcome.
-use Rattle.std.proofs.Common.{◌≡◌, ℕ, ◌+◌, List, length, sym, refl, ap, ◌∙◌, subst, inl, inr, arith}
+use Rattle.std.proofs.Common.{◌≡◌, ℕ, ◌+◌, ◌≤◌, List, length, sym, refl, ap, ◌∙◌, subst, inl, inr, arith}
 use Rattle.rules.specs.declared.fault.Fault.{Fault}
 use Rattle.rules.specs.declared.refusal.Refusal.{Refusal}
+use Rattle.text.specs.Sorts.{Sort, Read, Wrong}
 use Rattle.text.specs.Files.{Plan, nothing, first, Entries, plan_text, AllGood, Accepts, Accepted, FaultIn, FileFault}
 use Rattle.text.specs.Clear.{ClearAll, OneOutcome}
 use Rattle.text.proofs.Unique.{read_same, read_not_wrong, wrong_same}
@@ -9,6 +10,8 @@ use Rattle.text.proofs.Unique.{read_same, read_not_wrong, wrong_same}
 fault_is : (f g : Fault) → f.line ≡ g.line → f.refusal ≡ g.refusal → f ≡ g
 fault_is f g p q =
     let make : ℕ → Refusal → Fault = λ l w. record { line = l; refusal = w } in ap (make f.line) q ∙ ap (λ l. make l g.refusal) p
+
+-- ---- one fault, or one reading
 
 fault_same : (plan : Plan) → ClearAll plan → (line : ℕ) (t : List ℕ) (f g : Fault) → FaultIn plan line t f → FaultIn plan line t g → f ≡ g
 fault_same nothing clear above t f g (some, why, line) (more, because, row) = fault_is f g (line ∙ sym row) (why ∙ sym because)
@@ -41,6 +44,23 @@ accepted_same (first {X} s plan) clear t (xs, es) (ys, ds) (rest, read, ok) (mor
     let make : List X → Entries plan → Entries (first s plan) = λ x y. (x, y) in
     ap (λ x. make x es) e.0 ∙ ap (make ys) d
 
+-- ---- section after section
+
+-- the first section is wrong
+pub fault_here : {X : Type 0} (s : Sort X) (plan : Plan) (line : ℕ) (t : List ℕ) (f : Fault)
+    → ((right : ℕ) × Wrong s t right f.refusal × (f.line ≡ line + (right + 1))) → FaultIn (first s plan) line t f
+fault_here s plan line t f wrong = inl wrong
+
+-- the first section has nothing wrong, and a fault follows
+pub fault_beyond : {X : Type 0} (s : Sort X) (plan : Plan) (line next : ℕ) (t : List ℕ) (xs : List X) (rest : List ℕ) (f : Fault)
+    → Read s t xs rest → next ≡ line + (length xs + 1) → FaultIn plan next rest f → FaultIn (first s plan) line t f
+fault_beyond s plan line next t xs rest f read e later = inr (xs, rest, read, subst (λ l. FaultIn plan l rest f) e later)
+
+-- the first section has nothing wrong, and neither has what follows
+pub accepted_beyond : {X : Type 0} (s : Sort X) (plan : Plan) (t : List ℕ) (xs : List X) (rest : List ℕ) (es : Entries plan)
+    → Read s t xs rest → Accepted plan rest es → Accepted (first s plan) t (xs, es)
+accepted_beyond s plan t xs rest es read more = (rest, read, more)
+
 -- the text of good entries is accepted as these, and what is accepted is the text of good entries
 pub good_accepted : (plan : Plan) (t : List ℕ) (es : Entries plan) → AllGood plan es → t ≡ plan_text plan es → Accepted plan t es
 good_accepted nothing t es good e = e
@@ -54,6 +74,9 @@ accepted_good (first s plan) t (xs, es) (rest, read, ok) =
     let section = read.section in
     let follows = more.1 in
     ((read.good, more.0), cc)
+
+pub accepted_accepts : (plan : Plan) (t : List ℕ) (es : Entries plan) → length t ≤ 65536 → Accepted plan t es → Accepts plan t es
+accepted_accepts plan t es short ok = let e = accepted_good plan t es ok in record { short = short; good = e.0; is = e.1 }
 
 -- for clear sorts of line a text has one outcome
 pub one_outcome : (plan : Plan) → ClearAll plan → (text : List ℕ) → OneOutcome plan text

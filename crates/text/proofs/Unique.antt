@@ -7,8 +7,8 @@ use Rattle.text.specs.Numerals.{Lacks, Cut}
 use Rattle.text.specs.Texts.{NoLine}
 use Rattle.text.specs.Sorts.{Sort, heading, headings, Next, NextFault, lines, Proper, Read, Wrong}
 use Rattle.text.specs.Clear.{Clear}
-use Rattle.text.proofs.Written.{numeral_same}
-use Rattle.text.proofs.Parted.{same_cut, not_lacks, decimal_lacks}
+use Rattle.text.proofs.Numerals.{numeral_same}
+use Rattle.text.proofs.Cuts.{same_cut, not_lacks, decimal_lacks}
 
 cut_same : (m : ℕ) (t a b r q : List ℕ) → Cut m t a r → Cut m t b q → (a ≡ b) × (r ≡ q)
 cut_same m t a b r q p k = same_cut m a b r q p.first k.first (sym p.whole ∙ k.whole)

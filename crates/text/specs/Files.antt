@@ -47,7 +47,9 @@ TooLong text f = (65536 < length text) × (f.refusal ≡ WrongCount) × (f.line 
 -- wrong, and what follows it is at fault
 abbrev pub FaultIn : Plan → ℕ → List ℕ → Fault → Type 0
 FaultIn nothing line text f = LeftOver line text f
-FaultIn (first {X} s more) line text f = ((right : ℕ) × Wrong s text right f.refusal × (f.line ≡ line + (right + 1))) ⊎ ((xs : List X) × (rest : List ℕ) × Read s text xs rest × FaultIn more (line + (length xs + 1)) rest f)
+FaultIn (first {X} s more) line text f =
+    ((right : ℕ) × Wrong s text right f.refusal × (f.line ≡ line + (right + 1)))
+    ⊎ ((xs : List X) × (rest : List ℕ) × Read s text xs rest × FaultIn more (line + (length xs + 1)) rest f)
 
 -- the fault of a whole text
 abbrev pub FileFault : Plan → List ℕ → Fault → Type 0

@@ -1,7 +1,8 @@
 -- How a number stands in a field.
-use Rattle.std.specs.Prelude.{◌≡◌, ℕ, suc, ◌^◌, ◌<◌, List, ◌∷◌, ◌++◌, ℤ, pos, negsuc, Ok, Err, decimal, Result, ◌≢◌}
+use Rattle.std.specs.Prelude.{◌≡◌, ℕ, suc, ◌^◌, ◌<◌, ◌≤◌, List, ◌∷◌, ◌++◌, length, get_or, ℤ, pos, negsuc, neg_ℤ, Ok, Err, decimal, Result, ◌≢◌}
 use Rattle.std.specs.Fmt.{signed_decimal}
-use Rattle.std.specs.List.{AllByRecursion as All}
+use Rattle.std.specs.List.{AllByRecursion}
+use Rattle.std.specs.Str.Parse.{AllDigits, digits_value}
 
 -- n is written with at most seven digits
 abbrev pub Short : ℕ → Type 0
@@ -19,6 +20,20 @@ ShortSigned (negsuc n) = Short (suc n)
 abbrev pub SignedNumeral : List ℕ → ℤ → Type 0
 SignedNumeral field z = ShortSigned z × (field ≡ signed_decimal z)
 
+-- field has as many bytes as a numeral, and no zero before others
+pub record Plain (field : List ℕ) : Type 0 where
+  pub some : 1 ≤ length field
+  pub few : length field ≤ 7
+  pub lead : get_or field 0 0 ≡ 48 → length field ≡ 1
+
+-- digits have the value n, with or without leading zeros
+abbrev pub ValueOf : List ℕ → ℕ → Type 0
+ValueOf digits n = AllDigits 10 digits × (n ≡ digits_value 10 digits)
+
+-- z is the number below 0 whose digits these are
+abbrev pub Below : List ℕ → ℤ → Type 0
+Below digits z = (n : ℕ) × (0 < n) × Numeral digits n × (z ≡ neg_ℤ (pos n))
+
 -- what was read is what is meant, or there is an error and nothing is meant
 abbrev pub Reads : {X E : Type 0} → (X → Type 0) → Result X E → Type 0
 Reads Means (Ok x) = Means x
@@ -26,7 +41,7 @@ Reads {X = X} Means (Err e) = (x : X) → Means x → ⊥
 
 -- mark does not stand in text
 abbrev pub Lacks : ℕ → List ℕ → Type 0
-Lacks mark text = All (λ b. b ≢ mark) text
+Lacks mark text = AllByRecursion (λ b. b ≢ mark) text
 
 -- mark first stands in text between front and rest
 pub record Cut (mark : ℕ) (text front rest : List ℕ) : Type 0 where

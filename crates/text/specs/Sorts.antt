@@ -32,7 +32,16 @@ NamedBefore s line rest = line ≡ s.name ++ 32 ∷ rest
 
 -- headings are a sort too: one says how many entries follow, and a count that is not allowed is refused
 abbrev pub headings : {X : Type 0} → Sort X → Sort ℕ
-headings s = record { name = []; least = 0; most = 9999999; written = heading s.name; Formed = Short; Lawful = λ _ n. Allowed s n; refusal = WrongCount }
+headings s =
+    record {
+      name = [];
+      least = 0;
+      most = 9999999;
+      written = heading s.name;
+      Formed = Short;
+      Lawful = λ _ n. Allowed s n;
+      refusal = WrongCount;
+    }
 
 module _ {X : Type 0} (s : Sort X) where
   -- a line that says x

@@ -2,7 +2,7 @@ ghost use Rattle.std.specs.Prelude.{◌≡◌, ℕ, List, [], ◌∷◌, ◌++�
 ghost use Rattle.text.specs.Numerals.{Reads};
 ghost use Rattle.text.specs.Sorts.{Sort, Says, NamedBefore, Stored};
 
-use crate::numbers::Malformed;
+use crate::malformed::Malformed;
 use rules::Refusal;
 
 /// A sort of line of a section, as what one such line says.
@@ -12,7 +12,9 @@ pub trait Entry: Sized {
 
     /// What stands after the name and the space in a heading of this sort; none where the line is no such heading.
     fn after_name(line: &[u8]) -> Option<&[u8]>
-        ensures { MatchOption result ((rest : List ℕ) → NamedBefore sort line.now rest → ⊥) (λ rest. NamedBefore sort line.now rest.now) };
+        ensures { MatchOption result
+            ((rest : List ℕ) → NamedBefore sort line.now rest → ⊥)
+            (λ rest. NamedBefore sort line.now rest.now) };
 
     /// The least and the greatest count that a heading may tell.
     fn limits() -> (u32, u32)

@@ -2,7 +2,8 @@ ghost use Rattle.std.specs.Prelude.{◌≡◌, ℕ, List, ℤ, MatchOption, Matc
 ghost use Rattle.text.specs.Numerals.{Reads, Lacks, Cut};
 ghost use Rattle.text.specs.Fields.{Leads, LeadsSigned, Two, Three, flag};
 
-use crate::numbers::{Malformed, number, signed_number};
+use crate::malformed::Malformed;
+use crate::numbers::{number, signed_number};
 
 // What stands before the first `mark`, and what stands after it.
 pub(crate) fn cut(text: &[u8], mark: u8) -> Option<(&[u8], &[u8])>
@@ -18,7 +19,9 @@ pub(crate) fn cut(text: &[u8], mark: u8) -> Option<(&[u8], &[u8])>
 
 /// A number with the space after it, and what follows.
 pub fn leading_number(text: &[u8]) -> Result<(u32, &[u8]), Malformed>
-    ensures { MatchResult result (λ p. Leads text.now p.0 p.1.now) (λ _. (n : ℕ) (rest : List ℕ) → Leads text.now n rest → ⊥) }
+    ensures { MatchResult result
+        (λ p. Leads text.now p.0 p.1.now)
+        (λ _. (n : ℕ) (rest : List ℕ) → Leads text.now n rest → ⊥) }
 {
     let Some((field, rest)) = cut(text, b' ') else {
         return Err(Malformed);
@@ -31,7 +34,9 @@ pub fn leading_number(text: &[u8]) -> Result<(u32, &[u8]), Malformed>
 
 /// A signed number with the space after it, and what follows.
 pub fn leading_signed(text: &[u8]) -> Result<(i32, &[u8]), Malformed>
-    ensures { MatchResult result (λ p. LeadsSigned text.now p.0 p.1.now) (λ _. (z : ℤ) (rest : List ℕ) → LeadsSigned text.now z rest → ⊥) }
+    ensures { MatchResult result
+        (λ p. LeadsSigned text.now p.0 p.1.now)
+        (λ _. (z : ℤ) (rest : List ℕ) → LeadsSigned text.now z rest → ⊥) }
 {
     let Some((field, rest)) = cut(text, b' ') else {
         return Err(Malformed);
@@ -69,6 +74,7 @@ pub fn triple(text: &[u8]) -> Result<(u32, u32, u32), Malformed>
 }
 
 /// What a field of 1 or 0 says: 1 is yes.
+#[tactic(auto, using(crate::proofs::Patterns::only_one))]
 pub fn switch(field: &[u8]) -> Result<bool, Malformed>
     ensures { Reads (λ b. field.now ≡ flag b) result }
 {

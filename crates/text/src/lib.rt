@@ -3,11 +3,13 @@
 
 pub mod entry;
 pub mod fields;
+pub mod malformed;
 pub mod numbers;
 pub mod section;
 pub mod text;
 
 pub use entry::{Entry, Store};
 pub use fields::{leading_number, leading_signed, pair, switch, triple};
-pub use numbers::{Malformed, number, signed_number};
+pub use malformed::Malformed;
+pub use numbers::{number, signed_number};
 pub use text::Text;

@@ -11,8 +11,10 @@ impl<'a> Text<'a> {
     /// ends the reading.
     pub fn section<X: Entry, D: Store<X>>(&mut self, into: &mut D) -> Result<(), Fault>
         ensures read { MatchResult result
-            (λ _. Read X.sort self.old.rest (D.held into.new) self.new.rest × (self.new.line ≡ self.old.line + (length (D.held into.new) + 1)))
-            (λ f. (right : ℕ) × Wrong X.sort self.old.rest right f.refusal × (f.line ≡ self.old.line + (right + 1))) }
+            (λ _. Read X.sort self.old.rest (D.held into.new) self.new.rest
+            × (self.new.line ≡ self.old.line + (length (D.held into.new) + 1)))
+            (λ f. (right : ℕ) × Wrong X.sort self.old.rest right f.refusal
+            × (f.line ≡ self.old.line + (right + 1))) }
         ensures others { D.emptied into.new ≡ D.emptied into.old }
     {
         into.clear();
@@ -45,8 +47,10 @@ impl<'a> Text<'a> {
         requires none { D.held into.old ≡ [] }
         requires few { due ≤ X.sort.most }
         ensures read { MatchResult result
-            (λ _. (length (D.held into.new) ≡ due) × Begins X.sort self.old.rest (D.held into.new) self.new.rest × (self.new.line ≡ self.old.line + due))
-            (λ f. (right : ℕ) × EntriesFault X.sort self.old.rest due right f.refusal × (f.line ≡ self.old.line + (right + 1))) }
+            (λ _. (length (D.held into.new) ≡ due) × Begins X.sort self.old.rest (D.held into.new) self.new.rest
+            × (self.new.line ≡ self.old.line + due))
+            (λ f. (right : ℕ) × EntriesFault X.sort self.old.rest due right f.refusal
+            × (f.line ≡ self.old.line + (right + 1))) }
         ensures others { D.emptied into.new ≡ D.emptied into.old }
     {
         for _ in 0..due {
@@ -59,7 +63,8 @@ impl<'a> Text<'a> {
     fn entry<X: Entry, D: Store<X>>(&mut self, into: &mut D) -> Result<(), Fault>
         requires few { length (D.held into.old) < X.sort.most }
         ensures read { MatchResult result
-            (λ _. (x : X) × Next X.sort (D.held into.old) self.old.rest x self.new.rest × (D.held into.new ≡ D.held into.old ++ x ∷ []) × (self.new.line ≡ self.old.line + 1))
+            (λ _. (x : X) × Next X.sort (D.held into.old) self.old.rest x self.new.rest
+            × (D.held into.new ≡ D.held into.old ++ x ∷ []) × (self.new.line ≡ self.old.line + 1))
             (λ f. NextFault X.sort (D.held into.old) self.old.rest f.refusal × (f.line ≡ self.old.line + 1)) }
         ensures others { D.emptied into.new ≡ D.emptied into.old }
     {

@@ -65,17 +65,13 @@ impl<'a> Text<'a> {
             (λ f. NoLine self.old.rest f.refusal × (f.line ≡ self.old.line + 1)) }
     {
         let due = self.line + 1;
-        if self.rest.is_empty() {
-            return Err(Fault {
-                line: due,
-                refusal: Refusal::WrongCount,
-            });
-        }
         let Some((line, rest)) = cut(self.rest, b'\n') else {
-            return Err(Fault {
-                line: due,
-                refusal: Refusal::MalformedLine,
-            });
+            let refusal = if self.rest.is_empty() {
+                Refusal::WrongCount
+            } else {
+                Refusal::MalformedLine
+            };
+            return Err(Fault { line: due, refusal });
         };
         self.line = due;
         self.rest = rest;

@@ -1,7 +1,7 @@
 use Rattle.std.proofs.Common.{length, sym, ap, ◌∙◌, subst, arith}
 use Rattle.std.proofs.lemmas.List.{length_push}
 use Rattle.text.specs.Sorts.{Begins}
-use Rattle.text.proofs.Growth.{begins_more}
+use Rattle.text.proofs.Sections.{begins_more}
 use Rattle.text.proofs.text.Text.entries.Goals as goal
 
 -- one entry more is held, and the text began with it too

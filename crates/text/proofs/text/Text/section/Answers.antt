@@ -1,6 +1,6 @@
 use Rattle.std.proofs.Common.{◌+◌, refl, inr, arith}
 use Rattle.std.proofs.lemmas.Result.{MatchResult-weaker}
-use Rattle.text.proofs.Growth.{read_section}
+use Rattle.text.proofs.Sections.{read_section}
 use Rattle.text.proofs.text.Text.section.Goals as goal
 
 -- a heading and the entries that it tells are a section, and an entry at fault is a fault of the section

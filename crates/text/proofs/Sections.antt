@@ -1,4 +1,4 @@
--- One entry more in a section.
+-- A section grows by an entry, and is complete after those that are due.
 use Rattle.std.proofs.Common.{◌≡◌, ℕ, List, [], ◌∷◌, ◌++◌, length, decimal, sym, ◌∙◌, subst}
 use Rattle.std.proofs.lemmas.List.{append_assoc, append-nil, append_cancel_left, flat_map_more}
 use Rattle.text.specs.Sorts.{Sort, heading, headings, lines, Proper, Next, Begins, Read, Allowed}
@@ -12,7 +12,8 @@ module _ {X : Type 0} (s : Sort X) where
   proper_push before (y ∷ ys) x (f, l, rest) form law =
       (f, l, proper_push (before ++ y ∷ []) ys x rest form (rw append_assoc law))
 
-  pub begins_more : (text : List ℕ) (xs : List X) (rest : List ℕ) (x : X) (after : List ℕ) → Begins s text xs rest → Next s xs rest x after → Begins s text (xs ++ x ∷ []) after
+  pub begins_more : (text : List ℕ) (xs : List X) (rest : List ℕ) (x : X) (after : List ℕ)
+      → Begins s text xs rest → Next s xs rest x after → Begins s text (xs ++ x ∷ []) after
   begins_more text xs rest x after begins next =
       let e = begins.lines in
       let f = next.line in
@@ -22,7 +23,8 @@ module _ {X : Type 0} (s : Sort X) where
       record { proper = proper_push [] xs x begins.proper next.formed next.lawful; lines = cc }
 
   -- a heading and its entries are a section
-  pub read_section : (text entries rest : List ℕ) (n : ℕ) (xs : List X) → Next (headings s) [] text n entries → length xs ≡ n → Begins s entries xs rest → Read s text xs rest
+  pub read_section : (text entries rest : List ℕ) (n : ℕ) (xs : List X)
+      → Next (headings s) [] text n entries → length xs ≡ n → Begins s entries xs rest → Read s text xs rest
   read_section text entries rest n xs head len begins =
       let e = head.line in
       let f = begins.lines in
