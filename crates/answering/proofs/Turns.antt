@@ -56,10 +56,10 @@ module _ (s : Stock) (b : Book) (k : KindLetter) (questions : List Question) whe
       let long : i < length calls = rw (length-map questions event) lt in
       let here : get_or calls i (event x) ≡ event x = get_or-map event questions i d (event x) lt in
       let more_calls : first (i + 1) ≡ first i ++ event x ∷ [] =
-          take_more calls i (event x) long ∙ ap (λ (t : Event). first i ++ t ∷ []) here in
+      take_more calls i (event x) long ∙ ap (λ (t : Event). first i ++ t ∷ []) here in
       let is_reply : r ≡ reply (after b (first i)) (event x) = made.told ∙ ap (λ (t : Book). reply t (event x)) kept.held in
       let more : replies b (first i ++ event x ∷ []) ≡ replies b (first i) ++ r ∷ [] =
-          replies_more b (first i) (event x) ∙ ap (λ (t : Reply). replies b (first i) ++ t ∷ []) (sym is_reply) in
+      replies_more b (first i) (event x) ∙ ap (λ (t : Reply). replies b (first i) ++ t ∷ []) (sym is_reply) in
       let count : length (replies b (first i)) ≡ i = count_replies b (first i) ∙ omega (arith, length-take i calls) in
       let line : 1 + length (replies b (first i)) ≡ i + 1 = omega (arith, count) in
       record {
@@ -74,7 +74,7 @@ module _ (s : Stock) (b : Book) (k : KindLetter) (questions : List Question) whe
         run =
             subst (λ (t : List Event). Run b t (replies b t) b) (sym more_calls)
             (subst (λ (t : List Reply). Run b (first i ++ event x ∷ []) t b) (sym more)
-              (run_more b b b (first i) (replies b (first i)) (event x) r kept.run made));
+            (run_more b b b (first i) (replies b (first i)) (event x) r kept.run made));
       }
 
   -- where all are answered

@@ -3,8 +3,10 @@
 
 pub mod equipment;
 pub mod output;
+pub mod program;
 pub mod reckoner;
 
 pub use equipment::Equipment;
 pub use output::Output;
+pub use program::run;
 pub use reckoner::Reckoner;

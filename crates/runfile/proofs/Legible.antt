@@ -18,8 +18,8 @@ use Rattle.rules.specs.Questions.{lawful_letter}
 use Rattle.text.specs.Clear.{Clear, ClearAll}
 use Rattle.text.specs.Fields.{flag, spaced}
 use Rattle.text.specs.Numerals.{Short, ShortSigned, Lacks}
-use Rattle.text.proofs.Parted.{decimal_lacks, signed_lacks, leads_same, leads_signed_same}
-use Rattle.text.proofs.Written.{numeral_same}
+use Rattle.text.proofs.Cuts.{leads_same, leads_signed_same}
+use Rattle.text.proofs.Legible.{field_plain, decimal_plain, signed_plain, flag_plain, two_plain, three_plain, decimal_same, flag_same, two_same, three_same}
 use Rattle.runfile.specs.Run.{run_plan}
 use Rattle.runfile.specs.Sorts.{head_sort, point_sort, vehicle_sort, section_sort, question_sort}
 use Rattle.runfile.specs.declared.head.Head.{Head}
@@ -27,40 +27,6 @@ use Rattle.runfile.specs.declared.head.Head.{Head}
 -- the name in a heading
 name : (a b c : ℕ) → 10 < a → 10 < b → 10 < c → Lacks 10 (a ∷ (b ∷ (c ∷ [])))
 name a b c p q r = ((λ e. omega arith), ((λ e. omega arith), ((λ e. omega arith), tt)))
-
--- ---- a line has no line feed
-
--- a field before a space
-before : (f r : List ℕ) → Lacks 10 f → Lacks 10 r → Lacks 10 (f ++ 32 ∷ r)
-before f r h k = All-append _ f (32 ∷ r) h ((λ e. omega arith), k)
-
-one : (n : ℕ) → Short n → Lacks 10 (decimal n)
-one n h = decimal_lacks 10 n (omega arith) h
-
-two : (m n : ℕ) → Short m → Short n → Lacks 10 (spaced (decimal m ∷ decimal n ∷ []))
-two m n h k = before (decimal m) (decimal n) (one m h) (one n k)
-
-three : (l m n : ℕ) → Short l → Short m → Short n → Lacks 10 (spaced (decimal l ∷ decimal m ∷ decimal n ∷ []))
-three l m n h k j = before (decimal l) (spaced (decimal m ∷ decimal n ∷ [])) (one l h) (two m n k j)
-
--- ---- a line has one meaning
-
-same_one : (m n : ℕ) → Short m → Short n → decimal m ≡ decimal n → m ≡ n
-same_one m n h k e = numeral_same (decimal m) m n (h, refl) (k, e)
-
-same_two : (a b c d : ℕ) → Short a → Short b → Short c → Short d
-    → spaced (decimal a ∷ decimal b ∷ []) ≡ spaced (decimal c ∷ decimal d ∷ []) → (a ≡ c) × (b ≡ d)
-same_two a b c d p q r s e =
-    let k = leads_same _ a c (decimal b) (decimal d) (p, refl) (r, e) in
-    (k.0, same_one b d q s k.1)
-
-same_three : (a b c x y z : ℕ) → Short a → Short b → Short c → Short x → Short y → Short z
-    → spaced (decimal a ∷ decimal b ∷ decimal c ∷ []) ≡ spaced (decimal x ∷ decimal y ∷ decimal z ∷ [])
-    → (a ≡ x) × (b ≡ y) × (c ≡ z)
-same_three a b c x y z p q r s t u e =
-    let k = leads_same _ a x (spaced (decimal b ∷ decimal c ∷ [])) (spaced (decimal y ∷ decimal z ∷ [])) (p, refl) (s, e) in
-    let l = same_two b c y z q r t u k.1 in
-    (k.0, l.0, l.1)
 
 -- ---- the head
 
@@ -100,7 +66,7 @@ pub heads : Clear head_sort
 heads = record { named = name 82 85 78 (omega arith) (omega arith) (omega arith); short = omega arith; whole = whole; same = same }
   where
     whole : (h : Head) → Short h.distance → Lacks 10 (letter_of h.kind ++ 32 ∷ decimal h.distance)
-    whole h s = rw (is_letter h.kind) (capital h.kind, ((λ e. omega arith), one h.distance s))
+    whole h s = rw (is_letter h.kind) (capital h.kind, ((λ e. omega arith), decimal_plain h.distance s))
 
     same : (a b : Head) → Short a.distance → Short b.distance
         → letter_of a.kind ++ 32 ∷ decimal a.distance ≡ letter_of b.kind ++ 32 ∷ decimal b.distance → a ≡ b
@@ -110,33 +76,23 @@ heads = record { named = name 82 85 78 (omega arith) (omega arith) (omega arith)
         let l : letter a.kind ≡ letter b.kind = cc in
         let d : decimal a.distance ≡ decimal b.distance = cc in
         let k = sym (kind_back a.kind) ∙ ap kind_of l ∙ kind_back b.kind in
-        let n = same_one a.distance b.distance p q d in
+        let n = decimal_same a.distance b.distance p q d in
         let make : KindLetter → ℕ → Head = λ x y. record { kind = x; distance = y } in
         ap (λ x. make x a.distance) k ∙ ap (make b.kind) n
 
 -- ---- points
 
 pub points : Clear point_sort
-points = record { named = name 80 85 76 (omega arith) (omega arith) (omega arith); short = omega arith; whole = λ p h. two p.speed p.value h.0 h.1; same = same }
+points = record { named = name 80 85 76 (omega arith) (omega arith) (omega arith); short = omega arith; whole = λ p h. two_plain p.speed p.value h.0 h.1; same = same }
   where
     same : (a b : PointFigures) → Short a.speed × Short a.value → Short b.speed × Short b.value
         → spaced (decimal a.speed ∷ decimal a.value ∷ []) ≡ spaced (decimal b.speed ∷ decimal b.value ∷ []) → a ≡ b
     same a b p q e =
-        let k = same_two a.speed a.value b.speed b.value p.0 p.1 q.0 q.1 e in
+        let k = two_same a.speed a.value b.speed b.value p.0 p.1 q.0 q.1 e in
         let make : ℕ → ℕ → PointFigures = λ x y. record { speed = x; value = y } in
         ap (λ x. make x a.value) k.0 ∙ ap (make b.speed) k.1
 
 -- ---- vehicles
-
-flag_lacks : (b : Bool) → Lacks 10 (flag b)
-flag_lacks true = ((λ e. omega arith), tt)
-flag_lacks false = ((λ e. omega arith), tt)
-
-same_flag : (a b : Bool) → flag a ≡ flag b → a ≡ b
-same_flag true true e = refl
-same_flag true false e = let h : ◌≡◌ {A = ℕ} 49 48 = cc in absurd (omega arith)
-same_flag false true e = let h : ◌≡◌ {A = ℕ} 48 49 = cc in absurd (omega arith)
-same_flag false false e = refl
 
 no_letter : lawful_letter 10 ≡ false
 no_letter = refl
@@ -159,8 +115,8 @@ vehicles = record { named = name 86 69 72 (omega arith) (omega arith) (omega ari
       feed v.figures.letter h.0,
       (
         (λ e. omega arith),
-        before (decimal v.figures.mass) _ (one v.figures.mass h.1)
-            (before (decimal v.figures.pressure) _ (one v.figures.pressure h.2) (flag_lacks v.braked)),
+        field_plain (decimal v.figures.mass) _ (decimal_plain v.figures.mass h.1)
+            (field_plain (decimal v.figures.pressure) _ (decimal_plain v.figures.pressure h.2) (flag_plain v.braked)),
       ),
     )
 
@@ -170,7 +126,7 @@ vehicles = record { named = name 86 69 72 (omega arith) (omega arith) (omega ari
         let t : tail a ≡ tail b = cc in
         let m = leads_same (tail a) a.figures.mass b.figures.mass _ (decimal b.figures.pressure ++ 32 ∷ flag b.braked) (p.1, refl) (q.1, t) in
         let k = leads_same _ a.figures.pressure b.figures.pressure _ (flag b.braked) (p.2, refl) (q.2, m.1) in
-        let f = same_flag a.braked b.braked k.1 in
+        let f = flag_same a.braked b.braked k.1 in
         let make : ℕ → ℕ → ℕ → Bool → Vehicle =
         λ w x y z. record { figures = record { letter = w; mass = x; pressure = y }; braked = z } in
         ap (λ w. make w a.figures.mass a.figures.pressure a.braked) l ∙ ap (λ x. make b.figures.letter x a.figures.pressure a.braked) m.0
@@ -183,8 +139,8 @@ sections = record { named = name 83 69 67 (omega arith) (omega arith) (omega ari
   where
     whole : (x : SectionFigures) → section_sort.Formed x → Lacks 10 (section_sort.written x)
     whole x h =
-        before (decimal x.metres) _ (one x.metres h.0)
-        (before (signed_decimal x.gradient) _ (signed_lacks 10 x.gradient (omega arith) h.1) (three x.curve x.radius x.stop h.2 h.3 h.4))
+        field_plain (decimal x.metres) _ (decimal_plain x.metres h.0)
+        (field_plain (signed_decimal x.gradient) _ (signed_plain x.gradient h.1) (three_plain x.curve x.radius x.stop h.2 h.3 h.4))
 
     same : (a b : SectionFigures) → section_sort.Formed a → section_sort.Formed b → section_sort.written a ≡ section_sort.written b → a ≡ b
     same a b p q e =
@@ -192,7 +148,7 @@ sections = record { named = name 83 69 67 (omega arith) (omega arith) (omega ari
         leads_same _ a.metres b.metres _ (spaced (signed_decimal b.gradient ∷ decimal b.curve ∷ decimal b.radius ∷ decimal b.stop ∷ [])) (p.0, refl)
         (q.0, e) in
         let g = leads_signed_same _ a.gradient b.gradient _ (spaced (decimal b.curve ∷ decimal b.radius ∷ decimal b.stop ∷ [])) (p.1, refl) (q.1, l.1) in
-        let t = same_three a.curve a.radius a.stop b.curve b.radius b.stop p.2 p.3 p.4 q.2 q.3 q.4 g.1 in
+        let t = three_same a.curve a.radius a.stop b.curve b.radius b.stop p.2 p.3 p.4 q.2 q.3 q.4 g.1 in
         let make : ℕ → ℤ → ℕ → ℕ → ℕ → SectionFigures =
         λ v w x y z. record { metres = v; gradient = w; curve = x; radius = y; stop = z } in
         ap (λ v. make v a.gradient a.curve a.radius a.stop) l.0 ∙ ap (λ w. make b.metres w a.curve a.radius a.stop) g.0
@@ -205,30 +161,30 @@ pub questions : Clear question_sort
 questions = record { named = name 65 83 75 (omega arith) (omega arith) (omega arith); short = omega arith; whole = whole; same = same }
   where
     whole : (x : Question) → question_sort.Formed x → Lacks 10 (question_sort.written x)
-    whole (Stop q) h = ((λ e. omega arith), ((λ e. omega arith), three q.place q.speed q.factor h.0 h.1 h.2))
-    whole (Speed q) h = ((λ e. omega arith), ((λ e. omega arith), two q.place q.factor h.0 h.1))
-    whole (Mass q) h = ((λ e. omega arith), ((λ e. omega arith), two q.speed q.gross h.0 h.1))
+    whole (Stop q) h = ((λ e. omega arith), ((λ e. omega arith), three_plain q.place q.speed q.factor h.0 h.1 h.2))
+    whole (Speed q) h = ((λ e. omega arith), ((λ e. omega arith), two_plain q.place q.factor h.0 h.1))
+    whole (Mass q) h = ((λ e. omega arith), ((λ e. omega arith), two_plain q.speed q.gross h.0 h.1))
 
     apart : (r q : List ℕ) (a b : ℕ) → a ∷ (32 ∷ r) ≡ b ∷ (32 ∷ q) → (a ≡ b) × (r ≡ q)
     apart r q a b e = (cc, cc)
 
     same : (x y : Question) → question_sort.Formed x → question_sort.Formed y → question_sort.written x ≡ question_sort.written y → x ≡ y
     same (Stop x) (Stop y) p q e =
-        let k = same_three x.place x.speed x.factor y.place y.speed y.factor p.0 p.1 p.2 q.0 q.1 q.2 (apart _ _ 83 83 e).1 in
+        let k = three_same x.place x.speed x.factor y.place y.speed y.factor p.0 p.1 p.2 q.0 q.1 q.2 (apart _ _ 83 83 e).1 in
         let make : ℕ → ℕ → ℕ → Question = λ a b c. Stop (record { place = a; speed = b; factor = c }) in
         ap (λ a. make a x.speed x.factor) k.0 ∙ ap (λ b. make y.place b x.factor) k.1 ∙ ap (make y.place y.speed) k.2
     same (Stop x) (Speed y) p q e = let n = (apart _ _ 83 86 e).0 in absurd (omega arith)
     same (Stop x) (Mass y) p q e = let n = (apart _ _ 83 77 e).0 in absurd (omega arith)
     same (Speed x) (Stop y) p q e = let n = (apart _ _ 86 83 e).0 in absurd (omega arith)
     same (Speed x) (Speed y) p q e =
-        let k = same_two x.place x.factor y.place y.factor p.0 p.1 q.0 q.1 (apart _ _ 86 86 e).1 in
+        let k = two_same x.place x.factor y.place y.factor p.0 p.1 q.0 q.1 (apart _ _ 86 86 e).1 in
         let make : ℕ → ℕ → Question = λ a b. Speed (record { place = a; factor = b }) in
         ap (λ a. make a x.factor) k.0 ∙ ap (make y.place) k.1
     same (Speed x) (Mass y) p q e = let n = (apart _ _ 86 77 e).0 in absurd (omega arith)
     same (Mass x) (Stop y) p q e = let n = (apart _ _ 77 83 e).0 in absurd (omega arith)
     same (Mass x) (Speed y) p q e = let n = (apart _ _ 77 86 e).0 in absurd (omega arith)
     same (Mass x) (Mass y) p q e =
-        let k = same_two x.speed x.gross y.speed y.gross p.0 p.1 q.0 q.1 (apart _ _ 77 77 e).1 in
+        let k = two_same x.speed x.gross y.speed y.gross p.0 p.1 q.0 q.1 (apart _ _ 77 77 e).1 in
         let make : ℕ → ℕ → Question = λ a b. Mass (record { speed = a; gross = b }) in
         ap (λ a. make a x.gross) k.0 ∙ ap (make y.speed) k.1
 

@@ -2,7 +2,7 @@ use Rattle.std.proofs.Common.{◌≡◌, ℕ, List, [], ◌∷◌, arith, rules}
 use Rattle.rules.specs.declared.figures.Question.{Question}
 use Rattle.rules.specs.declared.figures.Question.TheVariants.{Stop, Speed, Mass}
 use Rattle.text.specs.Fields.{Two, Three}
-use Rattle.text.proofs.Parted.{after_two}
+use Rattle.text.proofs.Patterns.{after_two}
 use Rattle.runfile.specs.Lines.{QuestionForm, question_line}
 use Rattle.runfile.proofs.questions.question_on.Goals as goal
 

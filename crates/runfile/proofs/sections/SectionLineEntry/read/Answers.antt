@@ -1,7 +1,7 @@
 use Rattle.std.proofs.Common.{[], ◌∷◌, decimal}
 use Rattle.std.specs.Fmt.{signed_decimal}
 use Rattle.text.specs.Fields.{spaced}
-use Rattle.text.proofs.Parted.{leads_same, leads_signed_same}
+use Rattle.text.proofs.Cuts.{leads_same, leads_signed_same}
 use Rattle.runfile.proofs.sections.SectionLineEntry.read.Goals as goal
 
 pub returns-in_default-leading_signed : goal.returns-in_default-leading_signed

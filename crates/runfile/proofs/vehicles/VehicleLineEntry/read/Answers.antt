@@ -1,6 +1,7 @@
 use Rattle.std.proofs.Common.{◌++◌, ◌∷◌, get_or, decimal, rules}
 use Rattle.text.specs.Fields.{flag}
-use Rattle.text.proofs.Parted.{after_two, leads_same}
+use Rattle.text.proofs.Cuts.{leads_same}
+use Rattle.text.proofs.Patterns.{after_two}
 use Rattle.runfile.proofs.vehicles.VehicleLineEntry.read.Goals as goal
 
 pub returns-in_default-leading_number : goal.returns-in_default-leading_number
