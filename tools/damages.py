@@ -2,10 +2,8 @@
 """Small run files, nearly all damaged, and what becomes of each. The outcomes are written here by the rules of the run file;
 `runsheet.py` has to work out the same.
 
-    tools/damages.py source          the rows of a table of name, text and outcome, as they stand in Rust
-    tools/damages.py stdout          a line of name and outcome for each
-    tools/damages.py source few      the cases of FEW alone, one or two for each sort of fault
-    tools/damages.py source all      besides, every form of line that is none, in every section
+    tools/damages.py          a line of name and outcome for each
+    tools/damages.py all      besides, every form of line that is none, in every section
 """
 import sys
 from runsheet import printed
@@ -179,23 +177,6 @@ def cases():
     yield "stop mark and eight digits", at(9, b"10000000 -8 0 0 2"), "TEXT 9 15"
 
 
-# A choice for a table that has to be short.
-FEW = {
-    "whole", "no text", "a line end alone", "no line end", "a zero byte in a field", "a byte order mark first",
-    "a byte of 255 for a letter", "line ends CR LF", "ends before the kind", "ends before the points",
-    "ends before the vehicle", "ends before the question", "last line unterminated", "a line left over",
-    "a line left over, unterminated", "an empty line left over", "a point too few", "a vehicle too many", "sections exchanged",
-    "another name", "a longer name", "a name alone", "two kinds", "no point", "17 points", "121 vehicles", "201 sections",
-    "201 questions", "a count of eight digits", "no vehicle", "no section", "no question", "a zero before a number", "minus 0",
-    "minus before a length", "plus", "eight digits", "seven digits", "seven digits and a minus", "eight digits and a minus",
-    "two spaces", "a space behind", "a space before", "a tab", "an empty line", "a field too few", "a field too many",
-    "a kind outside its list", "a vehicle outside its list", "a question outside its list", "a speed with one number more",
-    "a brake field of 2", "first point at 1", "first value too great", "equal speeds", "a rising value", "a speed of 1601",
-    "F 399", "L 49 0 1", "L 1000 1001 0", "2000 401 0 0 0", "2000 -8 100 99 0", "2000 -8 0 0 2", "SHEET 2, LAW 4",
-    "LAW 4, TEXT 5", "TEXT 6, SHEET 7", "SHEET 9, a line left over", "name and count", "point and a space",
-    "mass and brake field",
-}
-
 # Each section: its heading, its first line, and in these a number that takes no minus.
 SECTIONS = [("RUN", 1, 2, b"1000", "SHEET 2 6"), ("PUL", 3, 4, b"40000", "LAW 4 14"), ("VEH", 6, 7, b"1000", "SHEET 7 1"),
             ("SEC", 8, 9, b"2000", "SHEET 9 4"), ("ASK", 10, 11, b"100", "1 NO 7")]
@@ -222,7 +203,7 @@ def every_form():
             yield f"{name} {what}: unterminated", first(k - 1, good), f"TEXT {k} 15"
 
 
-def outcomes(which):
+def outcomes(which="most"):
     """Name, text and printed lines of each case, once it is sure that `runsheet.py` works out the same."""
     names = set()
     for name, text, outcome in [*cases(), *(every_form() if which == "all" else [])]:
@@ -230,20 +211,12 @@ def outcomes(which):
         assert printed(text) == lines, (name, text, lines, printed(text))
         assert name not in names, name
         names.add(name)
-        if which != "few" or name in FEW:
-            yield name, text, lines
-    assert FEW <= names, FEW - names
+        yield name, text, lines
 
 
-def literal(text):
-    escapes = {10: r"\n", 13: r"\r", 9: r"\t", 0: r"\x00", 34: r"\"", 92: r"\\"}
-    return "".join(escapes.get(b) or (chr(b) if 32 <= b < 127 else f"\\x{b:02x}") for b in text)
-
-
-def main(what, which="most"):
-    for name, text, lines in outcomes(which):
-        outcome = lines[0] if lines else "nothing"
-        print(f'    ("{name}", b"{literal(text)}", "{outcome}"),' if what == "source" else f"{name}: {outcome}")
+def main(which="most"):
+    for name, _, lines in outcomes(which):
+        print(f"{name}: {lines[0] if lines else 'nothing'}")
 
 
 if __name__ == "__main__":
