@@ -11,7 +11,7 @@ use Rattle.rules.specs.Refusals.{Reply}
 use Rattle.rules.proofs.Histories.{replies_more, after_more, run_more}
 use Rattle.printing.specs.Lines.{reply_line}
 use Rattle.runfile.specs.Run.{request}
-use Rattle.answering.specs.Answers.{calls_of, numbered, AnsweredBy}
+use Rattle.answering.specs.Answers.{calls_of, numbered, LineAdded, AnsweredBy}
 
 count_replies : (b : Book) (es : List Event) → length (replies b es) ≡ length es
 count_replies b [] = refl
@@ -49,9 +49,13 @@ module _ (s : Stock) (b : Book) (k : KindLetter) (questions : List Question) whe
   begins = record { lines = refl; room = omega arith; held = refl; run = refl }
 
   -- one question more
-  pub turn : (i : ℕ) (out new : List ℕ) (d : Question) (r : Reply) → Kept i out → i < length questions → Performed b (event (get_or questions i d)) r b
-      → length (reply_line (i + 1) r) ≤ 64 → new ≡ out ++ reply_line (i + 1) r → Kept (i + 1) new
-  turn i out new d r kept lt made short is =
+  pub turn : (i : ℕ) (out new : List ℕ) (d : Question) → Kept i out → i < length questions
+      → LineAdded b (event (get_or questions i d)) (i + 1) out new → Kept (i + 1) new
+  turn i out new d kept lt added =
+      let r = added.reply in
+      let made = added.performed in
+      let short = added.short in
+      let is = added.printed in
       let x = get_or questions i d in
       let long : i < length calls = rw (length-map questions event) lt in
       let here : get_or calls i (event x) ≡ event x = get_or-map event questions i d (event x) lt in

@@ -1,10 +1,10 @@
 -- The lines that answer a run file.
-use Rattle.std.specs.Prelude.{◌≡◌, ℕ, suc, List, [], ◌∷◌, ◌++◌, map, Some, None, Option}
+use Rattle.std.specs.Prelude.{◌≡◌, ℕ, suc, ◌≤◌, List, length, [], ◌∷◌, ◌++◌, map, Some, None, Option}
 use Rattle.laws.specs.Kinds.{kind_by_letter}
 use Rattle.rules.specs.declared.fault.Fault.{Fault}
 use Rattle.rules.specs.declared.figures.PointFigures.{PointFigures}
 use Rattle.rules.specs.Book.{Book, new_book}
-use Rattle.rules.specs.History.{Event, ask, inquiry, History}
+use Rattle.rules.specs.History.{Event, ask, inquiry, Performed, History}
 use Rattle.rules.specs.Law.{Stock}
 use Rattle.rules.specs.Refusals.{Reply}
 use Rattle.printing.specs.Lines.{reply_line, fault_line}
@@ -18,6 +18,13 @@ calls_of s q = map (λ question. ask (inquiry (kind_by_letter q.kind) s question
 abbrev pub numbered : ℕ → List Reply → List ℕ
 numbered n [] = []
 numbered n (r ∷ rs) = reply_line n r ++ numbered (suc n) rs
+
+-- one call performed on the book, which stays, and the line of its reply printed behind the others
+pub record LineAdded (b : Book) (e : Event) (number : ℕ) (old new : List ℕ) : Type 0 where
+  pub reply : Reply
+  pub performed : Performed b e reply b
+  pub printed : new ≡ old ++ reply_line number reply
+  pub short : length (reply_line number reply) ≤ 64
 
 -- a run with the laws of its train is answered by its book: of its questions the whole promise about histories holds, and the n-th
 -- line is the reply to the n-th

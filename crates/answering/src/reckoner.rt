@@ -1,15 +1,16 @@
-ghost use Rattle.std.specs.Prelude.{◌≡◌, ℕ, ◌≤◌, [], length, Some, None, IfOk, IfSome, IsSome};
+ghost use Rattle.std.specs.Prelude.{◌≡◌, ℕ, ◌+◌, ◌<◌, ◌≤◌, [], length, Some, None, IfOk, IfSome, IsSome, MatchResult};
 ghost use Rattle.rules.specs.declared.fault.Fault.{Fault as FileFault};
 ghost use Rattle.rules.specs.Book.{Book, new_book};
 ghost use Rattle.printing.specs.Lines.{fault_line};
 ghost use Rattle.runfile.specs.Run.{Request, request, IsRun, IsFault};
-ghost use Rattle.answering.specs.Answers.{AnsweredBy, Answered};
+ghost use Rattle.answering.specs.Answers.{AnsweredBy, Answered, LineAdded};
+ghost use Rattle.rules.specs.History.{ask};
 
 use crate::equipment::Equipment;
 use crate::output::Output;
 use history::{Inquiry, Lettered};
 use laws::{KindLetter, StockLaws};
-use rules::Question;
+use rules::{Fault, Question, Refusal};
 use runfile::RunFile;
 use sheet::Sheet;
 use std::alloc::{AllocError, Global};
@@ -49,12 +50,20 @@ impl Reckoner {
         self.output.clear();
         match self.file.read(&mut self.sheet, text) {
             Ok(()) => self.answer_questions(equipment),
-            Err(fault) => {
-                let Ok(()) = self.output.push_fault(fault) else {
-                    unreachable!()
-                };
-            }
+            Err(fault) => self.tell(fault),
         }
+    }
+
+    // Prints a fault as the only line.
+    fn tell(&mut self, fault: Fault)
+        requires { self.old.output ≡ [] }
+        ensures output { self.new.output ≡ fault_line fault }
+        ensures sheet { self.new.sheet ≡ self.old.sheet }
+        ensures file { self.new.file ≡ self.old.file }
+    {
+        let Ok(()) = self.output.push_fault(fault) else {
+            unreachable!()
+        };
     }
 
     // Answers the questions of the file that was read.
@@ -89,6 +98,7 @@ impl Reckoner {
 }
 
 // Answers questions of a kind of brake and a stock by a sheet, a line each.
+#[tactic(auto, using(crate::proofs::Turns::turn))]
 fn answer_all<S: StockLaws>(
     output: &mut Output,
     sheet: &Sheet,
@@ -101,9 +111,23 @@ fn answer_all<S: StockLaws>(
     ensures { AnsweredBy (S.meaning stock.now) (request kind [] questions.now) sheet.now output.new }
 {
     for (i, question) in questions.iter().enumerate() {
-        let reply = Lettered::new(stock, kind, *question).put(sheet);
-        let Ok(()) = output.push_reply(i as u32 + 1, reply) else {
+        let asked = Lettered::new(stock, kind, *question);
+        let Ok(()) = answer_one(output, sheet, i as u32 + 1, asked) else {
             unreachable!()
         };
     }
+}
+
+// Answers a question by a sheet, and prints the reply behind the number of the question.
+fn answer_one<Q: Inquiry + Copy>(
+    output: &mut Output,
+    sheet: &Sheet,
+    number: u32,
+    question: Q,
+) -> Result<(), Refusal>
+    ensures { MatchResult result
+        (λ _. LineAdded sheet.now (ask (Q.inquiry question)) number output.old output.new)
+        (λ e. (12800 < length output.old + 64) × (output.new ≡ output.old)) }
+{
+    output.push_reply(number, question.put(sheet))
 }

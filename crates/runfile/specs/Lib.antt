@@ -1,3 +1,4 @@
 pub mod Lines
-pub mod Sorts
+pub mod Performed
 pub mod Run
+pub mod Sorts

@@ -4,6 +4,7 @@ ghost use Rattle.rules.specs.declared.fault.Fault.{Fault as FileFault};
 ghost use Rattle.rules.specs.Book.{Book};
 ghost use Rattle.rules.specs.Table.{lawful_table};
 ghost use Rattle.pull_table.specs.Tables.{points_of};
+ghost use Rattle.runfile.specs.Performed.{PerformedFrom};
 ghost use Rattle.runfile.specs.Run.{Request, request, questions_of, IsRun, IsFault, ReadFrom};
 
 use crate::head::read_head;
@@ -11,6 +12,7 @@ use crate::points::{PointLine, Points};
 use crate::questions::{QuestionLine, Questions};
 use crate::sections::SectionLine;
 use crate::vehicles::VehicleLine;
+use history::{Entry, Inquiry, perform};
 use laws::KindLetter;
 use pull_table::PullTable;
 use rules::{Fault, Question};
@@ -97,6 +99,25 @@ impl RunFile {
                 sheet.clear();
                 Err(fault)
             }
+        }
+    }
+
+    /// Reads a run file, and performs calls in their order on its train and line, with a reply beside each. Of a file with a fault
+    /// none is performed.
+    pub fn perform<Q: Inquiry>(
+        &mut self,
+        sheet: &mut Sheet,
+        text: &[u8],
+        calls: &mut [Entry<Q>],
+    ) -> Result<(), Fault>
+        ensures { PerformedFrom Q.inquiry text.now calls.old result calls.new self.new sheet.new }
+    {
+        match self.read(sheet, text) {
+            Ok(()) => {
+                perform(sheet, calls);
+                Ok(())
+            }
+            Err(fault) => Err(fault),
         }
     }
 }

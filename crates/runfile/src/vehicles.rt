@@ -81,6 +81,7 @@ impl Store<VehicleLine> for Sheet {
         self.uncouple_all();
     }
 
+    #[tactic(auto, using(crate::proofs::Brakes::rear_brake))]
     fn store(&mut self, line: VehicleLine) -> Result<(), Refusal> {
         let k = self.vehicle_count();
         let Ok(()) = self.couple(line.figures) else {

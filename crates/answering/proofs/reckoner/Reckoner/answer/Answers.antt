@@ -1,5 +1,4 @@
-use Rattle.std.proofs.Common.{◌≡◌, ℕ, sym, ap, ◌∙◌, arith, rules}
-use Rattle.rules.specs.declared.fault.Fault.{Fault}
+use Rattle.std.proofs.Common.{◌≡◌, ℕ, ap, ◌∙◌, arith, rules}
 use Rattle.printing.specs.Lines.{fault_line}
 use Rattle.answering.proofs.reckoner.Reckoner.answer.Goals as goal
 
@@ -9,11 +8,8 @@ returns-in-Ok-clause-refuses g c f is =
     let z : ◌≡◌ {A = ℕ} 0 1 = cc in
     absurd (omega arith)
 
-pub returns-in-Ok-push_fault-clause-refuses : goal.returns-in-Ok-push_fault-clause-refuses
-returns-in-Ok-push_fault-clause-refuses g c f is =
+pub returns-in-Err-clause-refuses : goal.returns-in-Err-clause-refuses
+returns-in-Err-clause-refuses g c f is =
     let told = c.in-Err.ensures.refuses f is in
     let same : c.in-Err.fault ≡ f = cc in
-    let printed = c.in-Ok-push_fault.ensures in
-    let empty = c.clear.ensures in
-    let line : c.push_fault.new.self ≡ fault_line c.in-Err.fault = rw empty at printed.2 in
-    (search rules, line ∙ ap fault_line same)
+    (search rules, c.tell.ensures.output ∙ ap fault_line same)
