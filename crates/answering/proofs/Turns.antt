@@ -5,13 +5,13 @@ use Rattle.laws.specs.Kinds.{kind_by_letter}
 use Rattle.laws.specs.declared.kind.KindLetter.{KindLetter}
 use Rattle.rules.specs.declared.figures.Question.{Question}
 use Rattle.rules.specs.Book.{Book}
-use Rattle.rules.specs.History.{Event, ask, inquiry, reply, next, replies, after, Performed, Run}
+use Rattle.rules.specs.History.{Event, ask, inquiry, reply, next, replies, after, Run}
 use Rattle.rules.specs.Law.{Stock}
 use Rattle.rules.specs.Refusals.{Reply}
 use Rattle.rules.proofs.Histories.{replies_more, after_more, run_more}
 use Rattle.printing.specs.Lines.{reply_line}
 use Rattle.runfile.specs.Run.{request}
-use Rattle.answering.specs.Answers.{calls_of, numbered, LineAdded, AnsweredBy}
+use Rattle.answering.specs.Answers.{numbered, LineAdded, AnsweredBy}
 
 count_replies : (b : Book) (es : List Event) → length (replies b es) ≡ length es
 count_replies b [] = refl

@@ -1,5 +1,5 @@
 -- The brake of the rear vehicle.
-use Rattle.std.proofs.Common.{◌≡◌, true, false, Bool, List, [], ◌∷◌, ◌++◌, length, refl, ap}
+use Rattle.std.proofs.Common.{◌≡◌, Bool, List, [], ◌∷◌, ◌++◌, length, refl, ap}
 use Rattle.rules.specs.Book.{Vehicle, vehicle, with_brake, with_rear}
 use Rattle.rules.specs.declared.figures.VehicleFigures.{VehicleFigures}
 

@@ -1,23 +1,18 @@
 -- Each line of a run file is read in one way.
 use Rattle.std.proofs.Common.{◌≡◌, ℕ, ◌<◌, Bool, true, false, cond, eqb, List, [], ◌∷◌, ◌++◌, ℤ, decimal, sym, refl, ap, ◌∙◌, arith}
 use Rattle.std.specs.Fmt.{signed_decimal}
-use Rattle.std.proofs.ByRecursion.{All-append}
 use Rattle.laws.specs.Kinds.{letter_of}
 use Rattle.laws.specs.declared.kind.KindLetter.{KindLetter}
 use Rattle.laws.specs.declared.kind.KindLetter.TheVariants.{F, P, E, H, J}
-use Rattle.rules.specs.declared.figures.MassQuestion.{MassQuestion}
 use Rattle.rules.specs.declared.figures.PointFigures.{PointFigures}
 use Rattle.rules.specs.declared.figures.Question.{Question}
 use Rattle.rules.specs.declared.figures.Question.TheVariants.{Stop, Speed, Mass}
 use Rattle.rules.specs.declared.figures.SectionFigures.{SectionFigures}
-use Rattle.rules.specs.declared.figures.SpeedQuestion.{SpeedQuestion}
-use Rattle.rules.specs.declared.figures.StopQuestion.{StopQuestion}
-use Rattle.rules.specs.declared.figures.VehicleFigures.{VehicleFigures}
 use Rattle.rules.specs.Book.{Vehicle}
 use Rattle.rules.specs.Questions.{lawful_letter}
 use Rattle.text.specs.Clear.{Clear, ClearAll}
 use Rattle.text.specs.Fields.{flag, spaced}
-use Rattle.text.specs.Numerals.{Short, ShortSigned, Lacks}
+use Rattle.text.specs.Numerals.{Short, Lacks}
 use Rattle.text.proofs.Cuts.{leads_same, leads_signed_same}
 use Rattle.text.proofs.Legible.{field_plain, decimal_plain, signed_plain, flag_plain, two_plain, three_plain, decimal_same, flag_same, two_same, three_same}
 use Rattle.runfile.specs.Run.{run_plan}

@@ -1,13 +1,10 @@
 -- How the lines of a run file are written, and what can be written.
 use Rattle.std.specs.Prelude.{◌≡◌, ℕ, true, List, [], ◌∷◌, codes, decimal}
 use Rattle.std.specs.Fmt.{signed_decimal}
-use Rattle.rules.specs.declared.figures.MassQuestion.{MassQuestion}
 use Rattle.rules.specs.declared.figures.PointFigures.{PointFigures}
 use Rattle.rules.specs.declared.figures.Question.{Question}
 use Rattle.rules.specs.declared.figures.Question.TheVariants.{Stop, Speed, Mass}
 use Rattle.rules.specs.declared.figures.SectionFigures.{SectionFigures}
-use Rattle.rules.specs.declared.figures.SpeedQuestion.{SpeedQuestion}
-use Rattle.rules.specs.declared.figures.StopQuestion.{StopQuestion}
 use Rattle.rules.specs.Book.{Vehicle}
 use Rattle.rules.specs.Questions.{lawful_letter}
 use Rattle.laws.specs.Kinds.{letter_of}

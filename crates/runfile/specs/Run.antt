@@ -5,7 +5,6 @@ use Rattle.rules.specs.declared.fault.Fault.{Fault}
 use Rattle.rules.specs.declared.figures.PointFigures.{PointFigures}
 use Rattle.rules.specs.declared.figures.Question.{Question}
 use Rattle.rules.specs.Book.{Book, new_book}
-use Rattle.text.specs.Clear.{OneOutcome}
 use Rattle.text.specs.Files.{Plan, nothing, first, Entries, Accepts, FileFault}
 use Rattle.runfile.specs.Sorts.{head_sort, point_sort, vehicle_sort, section_sort, question_sort}
 use Rattle.runfile.specs.declared.head.Head.{Head}

@@ -1,5 +1,5 @@
 -- The five sections of a run file.
-use Rattle.std.specs.Prelude.{◌≡◌, ℕ, true, List, [], ◌∷◌, ◌++◌, None, ⊤, codes}
+use Rattle.std.specs.Prelude.{◌≡◌, true, [], ◌∷◌, ◌++◌, None, ⊤, codes}
 use Rattle.rules.specs.declared.figures.PointFigures.{PointFigures}
 use Rattle.rules.specs.declared.figures.Question.{Question}
 use Rattle.rules.specs.declared.figures.SectionFigures.{SectionFigures}

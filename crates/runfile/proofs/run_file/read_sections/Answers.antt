@@ -1,4 +1,4 @@
-use Rattle.std.proofs.Common.{◌≡◌, [], ◌∷◌, inl, inr, Err, arith, rules}
+use Rattle.std.proofs.Common.{◌≡◌, [], ◌∷◌, inr, Err, rules}
 use Rattle.runfile.specs.Sorts.{head_sort, point_sort, vehicle_sort, section_sort, question_sort}
 use Rattle.runfile.proofs.Reading.{first_wrong, third_wrong, fourth_wrong, fifth_wrong, left_over}
 use Rattle.runfile.proofs.run_file.read_sections.Goals as goal

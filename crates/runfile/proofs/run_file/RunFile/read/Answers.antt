@@ -1,4 +1,4 @@
-use Rattle.std.proofs.Common.{◌≡◌, refl, ap, Some, Ok, Err}
+use Rattle.std.proofs.Common.{refl, ap, Some, Err}
 use Rattle.runfile.specs.Run.{request}
 use Rattle.runfile.proofs.Runs.{one_run, no_fault, one_fault, makes_table}
 use Rattle.runfile.proofs.run_file.RunFile.read.Goals as goal
