@@ -458,6 +458,36 @@ def figures():
     s.append(5000, -40, 300, 250, 0)
     tell("locomotive alone, speed 500", s.stop, "E", 100, 500, 6)
 
+    print("every refusal")
+    s = Sheet()
+    tell("a vehicle with the letter X", s.couple, "X", 600, 200)
+    for _ in range(120):
+        s.couple("W", 600, 200)
+    tell("a vehicle behind 120", s.couple, "W", 600, 200)
+    tell("the brake of vehicle 120", s.brake, 120, False)
+    s = Sheet()
+    tell("a section of 0 m", s.append, 0, 0, 0, 0, 0)
+    for _ in range(200):
+        s.append(100, 0, 0, 0, 0)
+    tell("a section behind 200", s.append, 100, 0, 0, 0, 0)
+    tell("a braking distance of 399 m", s.set_distance, 399)
+    tell("a stop from 1601", sample(0).stop, "F", 0, 1601, 10)
+    tell("a stop without a train", Sheet().stop, "F", 0, 100, 10)
+    tell("a stop a metre too near to the end", sample(0).stop, "F", 2001, 100, 10)
+    both, one = sample(-400), sample(-400)
+    for k in (0, 1):
+        both.brake(k, False)
+    one.brake(0, False)
+    tell("a stop without a brake", both.stop, "F", 0, 100, 10)
+    tell("a stop with one brake on a steep fall", one.stop, "F", 0, 100, 10)
+    tell("a stop from 1600", sample(0).stop, "F", 0, 1600, 10)
+    pull = scale(table([(0, 40_000), (400, 20_000)]), 90)
+    tell("a mass past the last point of the table", sample(0).mass, 401, 600, (pull, df4, wagon_drag))
+    print("a layer of 101 hundredths: refused 14")
+    print("a run file in small letters: refused 15")
+    print("a run file of two runs: refused 16")
+    print("a line into 63 bytes: refused 17")
+
 
 # ---- the program `readings`
 

@@ -1,8 +1,9 @@
-// Checked figures: laws, kinds of brake and grades at known places, and stops from one step to many.
+// Checked figures: laws, kinds of brake and grades at known places, stops from one step to many, and every refusal.
 #![tactic(auto)]
 
 mod laws_read;
 mod lines;
+mod refusals;
 mod stops;
 
 use std::io;
@@ -16,5 +17,6 @@ fn main(rt: HostRuntime) -> io::Result<()> {
     stops::by_kind(&rt)?;
     stops::window_ends(&rt)?;
     stops::long_stops(&rt)?;
-    stops::alone(&rt)
+    stops::alone(&rt)?;
+    refusals::every_refusal(&rt)
 }
