@@ -254,10 +254,8 @@ def answer(what, f, *args):
 
 def inspection():
     s = Sheet()
-    print("new sheet")
-    show(s)
-    pull = scale(table([(0, 40_000), (400, 20_000)]), 90)
-    names = {"F": "freight", "P": "passenger", "H": "freight by hand"}
+    pull = {"planned": scale(table([(0, 40_000), (400, 20_000)]), 90),
+            "measured": scale(table([(0, 39_200), (150, 31_700), (400, 19_500)]), 90)}
 
     def couple(*a):
         print("couple", *a, end=": ")
@@ -269,25 +267,44 @@ def inspection():
 
     def stop(kind, place, v, g):
         told = outcome(s.stop_with_allowance, kind, place, v, g)
-        print(f"stop at place {place}, speed {v}, factor {g} by {names[kind]} brake: {told}")
+        print(f"stop at place {place}, speed {v}, factor {g} by brake {kind}: {told}")
 
     def speed(kind, place, g):
-        print(f"speed at place {place}, factor {g} by {names[kind]} brake: {answer('speed ', s.speed, kind, place, g)}")
+        print(f"speed at place {place}, factor {g} by brake {kind}: {answer('speed ', s.speed, kind, place, g)}")
 
-    def mass(v, q):
-        print(f"mass at speed {v}, mass per wagon {q} by freight brake: {answer('mass ', s.mass, v, q, (pull, df4, wagon_drag))}")
+    def mass(v, q, by="measured"):
+        laws = (pull[by], df4, wagon_drag)
+        print(f"mass at speed {v}, mass per wagon {q} by brake F: {answer('mass ', s.mass, v, q, laws)}")
 
     def brake(k, on):
         print(f"{'restore' if on else 'cut out'} {k}: {outcome(s.brake, k, on)}")
 
-    print("made up")
-    couple("L", 1000, 400)
-    couple("W", 40, 10)
-    couple("W", 600, 200)
-    append(1500, 0, 0, 0, 0)
-    append(1500, 80, 0, 0, 0)
-    stop("F", 0, 100, 10)
+    def of_file():
+        s.train, s.line, s.reach = [], [], 1000
+        s.couple("L", 1000, 400)
+        s.couple("W", 600, 200)
+        s.append(1500, 0, 0, 0, 0)
+        s.append(1500, 80, 0, 0, 0)
+
+    print("new sheet")
     show(s)
+
+    print("read")
+    print("  brake F")
+    print("  pull at speed 0: 40000")
+    print("  pull at speed 400: 20000")
+    print("  stop at place 0, speed 100, factor 10")
+    print("  mass at speed 200, mass per wagon 600")
+    print("  stop at place 2500, speed 100, factor 10")
+    of_file()
+    show(s)
+
+    for by in ("planned", "measured"):
+        print(by)
+        stop("F", 0, 100, 10)
+        mass(200, 600, by)
+        stop("F", 2500, 100, 10)
+        show(s)
 
     print("inspected")
     brake(1, False)
@@ -325,6 +342,16 @@ def inspection():
     print(f"lift: {outcome(s.lift)}")
     stop("F", 0, 600, 7)
     speed("F", 0, 7)
+    mass(200, 600)
+    show(s)
+
+    print("read again")
+    of_file()
+    couple("W", 40, 10)
+    couple("W", 800, 300)
+    append(1000, -60, 0, 0, 0)
+    stop("F", 2500, 100, 10)
+    speed("F", 2500, 10)
     mass(200, 600)
     show(s)
 

@@ -1,6 +1,9 @@
 -- What is printed of calls and replies.
 use Rattle.std.specs.Prelude.{ℕ, List, ◌++◌, Some, Option, codes, decimal}
-use Rattle.rules.specs.Printed.{vehicle_text, section_text, stop_text}
+use Rattle.laws.specs.Kinds.{letter_of}
+use Rattle.laws.specs.declared.kind.KindLetter.{KindLetter}
+use Rattle.rules.specs.declared.figures.Question.{Question}
+use Rattle.rules.specs.Printed.{vehicle_text, section_text, stop_text, question_text}
 use Rattle.rules.specs.Refusals.{refusal_text}
 use Rattle.history.specs.declared.call.Call.{Call}
 use Rattle.history.specs.declared.call.Call.TheVariants.{Couple, Uncouple, CutOut, Restore, Append, Lift, SetDistance, Ask}
@@ -13,6 +16,10 @@ reply_text (Stops t) = stop_text t
 reply_text (Runs v) = codes "up to speed " ++ decimal v
 reply_text (Hauls x) = codes "up to mass " ++ decimal x
 reply_text (Refused e) = refusal_text e
+
+-- a question, and the letter of the kind of brake that it asks about
+abbrev pub lettered_text : KindLetter → Question → List ℕ
+lettered_text kind question = question_text question ++ (codes " by brake " ++ letter_of kind)
 
 -- a call, by what is printed of its question
 abbrev pub call_text : {Q : Type 0} → (Q → Option (List ℕ)) → Call Q → Option (List ℕ)

@@ -1,5 +1,5 @@
 ghost use Rattle.laws.specs.Kinds.{kind_by_letter};
-ghost use Rattle.rules.specs.Printed.{question_text};
+ghost use Rattle.history.specs.Printed.{lettered_text};
 ghost use Rattle.std.specs.Prelude.{◌≡◌, Some};
 
 use crate::asked::Asked;
@@ -44,7 +44,9 @@ impl<'a, S: StockLaws> Inquiry for Lettered<'a, S> {
         match self.kind {
             KindLetter::F => Asked::<Freight, S>::new(self.stock, self.question).put(sheet),
             KindLetter::P => Asked::<Passenger, S>::new(self.stock, self.question).put(sheet),
-            KindLetter::E => Asked::<ElectroPneumatic, S>::new(self.stock, self.question).put(sheet),
+            KindLetter::E => Asked::<ElectroPneumatic, S>::new(self.stock, self.question).put(
+                sheet,
+            ),
             KindLetter::H => Asked::<FreightByHand, S>::new(self.stock, self.question).put(sheet),
             KindLetter::J => Asked::<PassengerByHand, S>::new(self.stock, self.question).put(sheet),
         }
@@ -52,9 +54,9 @@ impl<'a, S: StockLaws> Inquiry for Lettered<'a, S> {
 }
 
 impl<'a, S> fmt::Display for Lettered<'a, S> {
-    ghost output = { λ a. Some (question_text a.question) };
+    ghost output = { λ a. Some (lettered_text a.kind a.question) };
 
     fn fmt<W: fmt::Write>(&self, f: &mut fmt::Formatter<W>) -> fmt::Result {
-        write!(f, "{}", self.question)
+        write!(f, "{} by brake {}", self.question, self.kind)
     }
 }

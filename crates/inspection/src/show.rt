@@ -1,5 +1,22 @@
+use runfile::RunFile;
 use sheet::Sheet;
 use std::io;
+
+/// The kind of brake, the pull table and the questions of a run file.
+pub fn show_file(rt: &HostRuntime, file: &RunFile) -> io::Result<()> {
+    if let Some(kind) = file.kind() {
+        println!(rt; "  brake {kind}")?;
+    }
+    if let Some(table) = file.table() {
+        for point in table.points() {
+            println!(rt; "  pull at speed {}: {}", point.speed, point.value)?;
+        }
+    }
+    for question in file.questions() {
+        println!(rt; "  {question}")?;
+    }
+    Ok(())
+}
 
 /// The train, the line and the braking distance of a sheet.
 pub fn show_sheet(rt: &HostRuntime, sheet: &Sheet) -> io::Result<()> {

@@ -1,6 +1,6 @@
-use crate::brakes::{Inspected, Pulled};
+use crate::calls::{Noted, Pulled};
 use crate::show::show_sheet;
-use history::{Entry, Reply};
+use history::Reply;
 use report::{StopWithAllowance, tell};
 use sheet::Sheet;
 use std::io;
@@ -11,17 +11,23 @@ pub fn tell_history(
     name: &str,
     sheet: &Sheet,
     stock: &Pulled,
-    calls: &[Entry<Inspected<'_>>],
+    calls: &[Noted<'_>],
 ) -> io::Result<()> {
     println!(rt; "{name}")?;
-    for entry in calls.iter() {
-        tell_entry(rt, stock, entry)?;
-    }
+    tell_calls(rt, stock, calls)?;
     show_sheet(rt, sheet)
 }
 
+/// Tells calls that were performed, each with its reply.
+pub fn tell_calls(rt: &HostRuntime, stock: &Pulled, calls: &[Noted<'_>]) -> io::Result<()> {
+    for entry in calls.iter() {
+        tell_entry(rt, stock, entry)?;
+    }
+    Ok(())
+}
+
 // A stop is told with by how much at most its distance exceeds the exact sum.
-fn tell_entry(rt: &HostRuntime, stock: &Pulled, entry: &Entry<Inspected<'_>>) -> io::Result<()> {
+fn tell_entry(rt: &HostRuntime, stock: &Pulled, entry: &Noted<'_>) -> io::Result<()> {
     match entry.reply {
         Some(Reply::Stops(figures)) => {
             tell(rt, &entry.call, StopWithAllowance::of(stock, figures))
