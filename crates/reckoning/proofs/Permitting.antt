@@ -1,25 +1,63 @@
 -- A speed that is asked for at a place that is approached, by stops over the approach.
-use Rattle.std.proofs.Common.{◌≡◌, ℕ, ◌+◌, ◌*◌, ◌≤◌, Bool, leb, [], ℤ, is_none, Result, IfOk, sym, ap, ◌∙◌, arith, rules}
+use Rattle.std.proofs.Common.{◌≡◌, ℕ, ◌+◌, ◌-◌, ◌*◌, ◌/◌, ◌<◌, ◌≤◌, Bool, true, false, cond, ◌==◌, leb, ℤ, is_none, Result, IfOk, sym, refl, ap, ◌∙◌, subst, arith, rules}
 use Rattle.rules.specs.declared.figures.SpeedQuestion.{SpeedQuestion}
 use Rattle.rules.specs.declared.refusal.Refusal.{Refusal}
 use Rattle.rules.specs.Book.{Book}
 use Rattle.rules.specs.Kind.{Kind}
 use Rattle.rules.specs.Law.{Stock}
-use Rattle.rules.specs.Questions.{braking, stopping, stop_questions, stop_figures}
-use Rattle.rules.specs.Refusals.{Reply, runs, stops, first_no, decide, speed_reply, told, DecidedOnce}
-use Rattle.rules.specs.Speed.{is_answered_at, permitted_speed, speed_questions, asked_for_speed, IsGreatestSpeed}
-use Rattle.rules.specs.Stop.{Approach as RuleApproach, approach_at, delay_run}
-use Rattle.rules.proofs.Speeds.{same_last, speed_decides, speed_promised}
+use Rattle.rules.specs.Questions.{stopping, stop_questions}
+use Rattle.rules.specs.Refusals.{Reply, runs, first_no, decide, speed_reply, told, DecidedOnce}
+use Rattle.rules.specs.Speed.{last_before_failure, is_answered_at, permitted_speed, speed_questions, asked_for_speed, IsGreatestSpeed}
+use Rattle.rules.specs.Stop.{Approach as RuleApproach, approach_at, edge, steps_from, all_hold, brake_force, holding_force, delay_run}
+use Rattle.rules.proofs.Speeds.{same_last, search_goes_on, speed_decides, speed_promised}
 use Rattle.reckoning.specs.declared.approach.Approach.{Approach}
 use Rattle.reckoning.specs.Approaches.{approach_of, IsApproach}
+use Rattle.reckoning.specs.declared.run.Run.{Run}
+use Rattle.reckoning.specs.Brakings.{RunsThrough, IsBelow}
 use Rattle.reckoning.specs.Speeds.{is_answered, last_answered, PermitsOver}
 use Rattle.reckoning.proofs.Asking.{approached}
+use Rattle.reckoning.proofs.Brakings.{starts, moves_on}
 
--- a stop whose forces hold is answered where its distance lies within reach
-pub tested : (k : Kind) (a : RuleApproach) (v d m n : ℕ) (r : Bool) → stops d m n ≡ decide (first_no (braking a v [])) (stop_figures k a v)
-    → r ≡ leb d (1000 * a.reach) → r ≡ is_answered k a v
-unfolding is_answered
-tested k a v d m n r reply is = grind arith
+-- a stop whose forces hold is answered where its distance lies within reach, and else none is
+module _ (k : Kind) (a : RuleApproach) (v : ℕ) where
+  pub weak_brake : brake_force a v < 1000 → is_answered k a v ≡ false
+  unfolding is_answered
+  weak_brake weak = grind arith
+
+  pub weak_step : all_hold (holding_force a) (steps_from v) ≡ false → is_answered k a v ≡ false
+  unfolding is_answered
+  weak_step weak = grind arith
+
+  pub tested : (b d : ℕ) (run : Run) (r : Bool) → b ≡ brake_force a v → 1000 ≤ b → RunsThrough (holding_force a) (steps_from v) run
+      → d ≡ delay_run k v b a.lowest + run.distance → r ≡ leb d (1000 * a.reach) → r ≡ is_answered k a v
+  unfolding is_answered
+  tested b d run r is strong through sum in_reach =
+      let holds = through.holds in
+      let length = through.distance in
+      grind arith
+
+-- ---- the search
+
+module _ (k : Kind) (a : RuleApproach) where
+  -- the stops from each speed up to the greatest are answered, and the run is from the edge below the next
+  pub record Tried (greatest : ℕ) (under : Run) : Type 0 where
+    pub answered : last_before_failure (is_answered k a) greatest ((1600 - greatest) / 50) ≡ last_answered k a
+    pub multiple : 50 * (greatest / 50) ≡ greatest
+    pub below : IsBelow (holding_force a) (greatest + 50) under
+
+  pub begins : (at_rest : Run) → at_rest.distance ≡ 0 → at_rest.steps ≡ 0 → Tried 0 at_rest
+  begins at_rest distance steps = record { answered = refl; multiple = refl; below = starts (holding_force a) at_rest distance steps }
+
+  pub goes_on : (greatest v : ℕ) (below run next : Run) → Tried greatest below → v ≡ greatest + 50 → v ≤ 1600 → is_answered k a v ≡ true
+      → RunsThrough (holding_force a) (steps_from v) run → next ≡ cond (v == edge run.steps) run below → Tried v next
+  goes_on greatest v below run next tried is room here through kept =
+      let multiple : 50 * (v / 50) ≡ v = omega (arith, is, tried.multiple) in
+      let more = search_goes_on (is_answered k a) 1600 greatest (omega (arith, is, room)) (subst (λ (x : ℕ). is_answered k a x ≡ true) is here) in
+      record {
+        answered = subst (λ (x : ℕ). last_before_failure (is_answered k a) x ((1600 - x) / 50) ≡ last_answered k a) (sym is) (sym more ∙ tried.answered);
+        multiple = multiple;
+        below = moves_on (holding_force a) v below run next multiple (subst (λ (x : ℕ). IsBelow (holding_force a) x below) (sym is) tried.below) through kept;
+      }
 
 -- at rest nothing is run before the brakes hold
 pub delay_at_rest : (k : Kind) (b : ℕ) (g : ℤ) → delay_run k 0 b g ≡ 0

@@ -75,12 +75,9 @@ impl Approach {
         ensures { stop_reply result ≡ decide (first_no (braking (approach_of self.now (S.meaning stock.now)) v [])) (stop_figures (kind K.T K.C) (approach_of self.now (S.meaning stock.now)) v) }
     {
         let train = Braking::new(*self, stock);
-        let brake = train.brake_force(v);
-        if brake.count() < 1000 {
-            return Err(Refusal::WeakBrake);
-        }
+        let brake = train.strong_brake(v)?;
         let run = train.run(v, brake)?;
-        let distance = train.delay::<K>(v, brake) + run.distance;
+        let distance = train.distance::<K>(v, brake, run);
         Ok((distance, run.least as u32, run.steps))
     }
 
