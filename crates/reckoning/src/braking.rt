@@ -103,6 +103,7 @@ impl<'a, S: StockLaws> Braking<'a, S> {
     }
 
     // The run from a speed: one step down to the edge where a run begins, and that run; refused where the train is not held in it.
+    #[inline(always)]
     pub(crate) fn run_over(&self, below: Run, v: Speed) -> Result<Run, Refusal>
         requires few { below.steps ≤ 26 }
         requires above { edge below.steps ≤ v }
