@@ -68,8 +68,8 @@ module _ (force : Step → ℤ) where
           let made = longer_under y run more longer b at_edge in
           record {
             under =
-            subst (λ (x : ℕ). RunsUnder force b (steps_through x more.steps) more) upper
-            (subst (λ (k : ℕ). RunsUnder force b (steps_through y k) more) next made);
+                subst (λ (x : ℕ). RunsUnder force b (steps_through x more.steps) more) upper
+                (subst (λ (k : ℕ). RunsUnder force b (steps_through y k) more) next made);
             within = omega (arith, longer.steps, (counted v run.steps).0 below);
           }
 
@@ -112,6 +112,7 @@ module _ (force : Step → ℤ) where
     where
       count : more.steps ≡ suc run.steps
       count = omega (arith, through.steps, through_length v (edges_below v), below.count)
+
       moved : (b : Bool) → (v == edge more.steps) ≡ b → next ≡ cond b more run → IsBelow force (v + 50) next
       moved true at is =
           let top : v ≡ edge more.steps = eqb-true v (edge more.steps) at in

@@ -102,7 +102,8 @@ impl<'a, S: StockLaws> Braking<'a, S> {
             .holding_milli(self.brake_force(step.top()), self.drag(step))
     }
 
-    // The run from a speed: one step down to the edge where a run begins, and that run; refused where the train is not held in it.
+    // The run from a speed: one step down to the edge where a run begins, and that run; refused where the train is not held in
+    // that step. In line, since loops are made of it.
     #[inline(always)]
     pub(crate) fn run_over(&self, below: Run, v: Speed) -> Result<Run, Refusal>
         requires few { below.steps ≤ 26 }

@@ -3,7 +3,7 @@ ghost use Rattle.reckoning.specs.Brakings.{train_of, IsBelow, RunInTime};
 ghost use Rattle.reckoning.specs.Speeds.{last_answered, PermitsOver};
 ghost use Rattle.rules.specs.Kind.{kind};
 ghost use Rattle.rules.specs.Stop.{edge, holding_force};
-ghost use Rattle.std.specs.Prelude.{◌≡◌, ◌+◌, ◌<◌, ◌≤◌, ◌==◌, cond, MatchOption};
+ghost use Rattle.std.specs.Prelude.{◌≡◌, ◌+◌, ◌<◌, ◌==◌, cond, MatchOption};
 
 use crate::approach::Approach;
 use crate::braking::Braking;
@@ -28,7 +28,7 @@ pub(crate) fn permitted_speed<K: BrakeKind, S: StockLaws>(
     Ok(last_in_time::<K, S>(&train, Run::at_rest(brake)))
 }
 
-// The same of a train that is held at rest.
+// The same of a train that is held at rest, by its run there.
 #[tactic(auto, using(rules::proofs::Speeds::search_fails, rules::proofs::Speeds::search_ends, crate::proofs::Permitting::begins, crate::proofs::Permitting::goes_on, crate::proofs::Brakings::room))]
 fn last_in_time<K: BrakeKind, S: StockLaws>(train: &Braking<S>, at_rest: Run) -> Speed
     requires { (at_rest.distance ≡ 0) × (at_rest.steps ≡ 0) }
@@ -41,7 +41,7 @@ fn last_in_time<K: BrakeKind, S: StockLaws>(train: &Braking<S>, at_rest: Run) ->
             return greatest;
         };
         greatest = next;
-        below = below_next(below, run, next);
+        below = from_edge(below, run, next);
     }
     greatest
 }
@@ -66,8 +66,7 @@ fn run_in_time<K: BrakeKind, S: StockLaws>(
 
 // The run from the highest edge that is not above a speed: the one from the speed itself where it is an edge, and else that
 // from the edge below it.
-fn below_next(below: Run, run: Run, v: Speed) -> Run
-    requires { run.steps ≤ 27 }
+fn from_edge(below: Run, run: Run, v: Speed) -> Run
     ensures { result ≡ cond (v == edge run.steps) run below }
 {
     if v == edge(run.steps) { run } else { below }

@@ -10,5 +10,5 @@ loop-next-preserved g c =
     let a = train_of g.S.StockLaws.meaning c.args.train.now in
     let run = c.in-Ok.run' in
     let answered = c.in-Ok.ensures in
-    goes_on k a c.loop-next.greatest c.in-Some.next c.loop-next.below run c.below_next-below.result c.loop-next.invariant c.in-Some.ensures (search rules) answered.0 answered.1
-    c.below_next-below.ensures
+    goes_on k a c.loop-next.greatest c.in-Some.next c.loop-next.below run c.from_edge-below.result c.loop-next.invariant c.in-Some.ensures (search rules) answered.0 answered.1
+    c.from_edge-below.ensures
