@@ -1,87 +1,73 @@
 -- A run step by step, from a stand up to the speed of a stop.
-use Rattle.std.proofs.Common.{◌≡◌, ℕ, zero, suc, ◌+◌, ◌*◌, ◌/◌, ◌<◌, ◌≤◌, min, Bool, true, false, cond, ◌&&◌, ◌==◌, List, length, ℤ, pos, int_le, sym, refl, ap, ◌∙◌, subst, arith}
+use Rattle.std.proofs.Common.{◌≡◌, ℕ, zero, suc, ◌+◌, ◌*◌, ◌/◌, ◌<◌, ◌≤◌, min, Bool, true, false, cond, ◌&&◌, ◌==◌, List, [], ◌∷◌, map, length, ℤ, pos, int_le, sym, refl, ap, ◌∙◌, subst, arith}
 use Rattle.std.proofs.lemmas.Bool.{eqb-false, eqb-true}
 use native.Mathlib.Decide.{dec_lt}
 use Rattle.reckoning.specs.declared.run.Run.{Run}
-use Rattle.reckoning.specs.Brakings.{IsLonger, RunsThrough, RunsUnder, IsBelow}
-use Rattle.rules.specs.Stop.{Step, step, edge, edges_below, steps_through, steps_from, all_hold, braking_run, braking_distance}
+use Rattle.reckoning.specs.Brakings.{no_less, IsLonger, RunsThrough, Climbs, IsBelow}
+use Rattle.rules.specs.Fraction.{natural_of}
+use Rattle.rules.specs.Stop.{Step, step, edge, edges_below, steps_through, steps_from, all_hold, least_of}
 use Rattle.rules.proofs.Steps.{counted, weak_below}
 
 pub through_length : (y k : ℕ) → length (steps_through y k) ≡ k
 through_length y zero = refl
 through_length y (suc k) = ap suc (through_length (edge k) k)
 
-module _ (force : Step → ℤ) where
-  -- no step from any speed
-  pub none_through : (y : ℕ) (run : Run) → run.distance ≡ 0 → run.steps ≡ 0 → RunsThrough force (steps_through y run.steps) run
-  none_through y run distance steps =
-      subst (λ (k : ℕ). RunsThrough force (steps_through y k) run) (sym steps) (record { holds = refl; distance = distance; steps = steps })
+-- the least force with the brake force b
+least_with : (b n : ℕ) (ns : List ℕ) → b ≤ n → min (least_of n ns) b ≡ least_of b ns
+least_with b n [] h = omega arith
+least_with b n (m ∷ ns) h = omega (arith, least_with b n ns h)
 
-  none_under : (b y : ℕ) (run : Run) → run.distance ≡ 0 → run.least ≡ b → run.steps ≡ 0 → RunsUnder force b (steps_through y run.steps) run
-  none_under b y run distance least steps =
-      subst (λ (k : ℕ). RunsUnder force b (steps_through y k) run) (sym steps)
-      (record { through = record { holds = refl; distance = distance; steps = steps }; least = least; under = omega (arith, least) })
+module _ (force : Step → ℤ) where
+  pub least_under : (b : ℕ) (all : List Step) (run : Run) → RunsThrough force all run → b ≤ 4294967295
+      → min run.least b ≡ least_of b (map (λ s. natural_of (force s)) all)
+  least_under b all run through small = ap (λ (n : ℕ). min n b) through.least ∙ least_with b no_less (map (λ s. natural_of (force s)) all) small
+
+  -- no step from any speed
+  pub none_through : (y : ℕ) (run : Run) → run.distance ≡ 0 → run.least ≡ no_less → run.steps ≡ 0 → RunsThrough force (steps_through y run.steps) run
+  none_through y run distance least steps =
+      subst (λ (k : ℕ). RunsThrough force (steps_through y k) run) (sym steps) (record { holds = refl; distance = distance; least = least; steps = steps })
 
   -- a step more, from y down to the edge where a run begins
-  module _ (y : ℕ) (run more : Run) (longer : IsLonger force (step y (edge run.steps)) run more) where
-    abbrev before : List Step
-    before = steps_through (edge run.steps) run.steps
+  pub longer_through : (y : ℕ) (run more : Run) → IsLonger force (step y (edge run.steps)) run more → RunsThrough force (steps_through (edge run.steps) run.steps) run
+      → RunsThrough force (steps_through y (suc run.steps)) more
+  longer_through y run more longer through =
+      record {
+        holds = ap (λ (t : Bool). t && all_hold force (steps_through (edge run.steps) run.steps)) longer.holds ∙ through.holds;
+        distance = omega (arith, longer.distance, through.distance);
+        least = omega (arith, longer.least, through.least);
+        steps = omega (arith, longer.steps, through.steps);
+      }
 
-    pub longer_through : RunsThrough force before run → RunsThrough force (steps_through y (suc run.steps)) more
-    longer_through through =
-        record {
-          holds = ap (λ (t : Bool). t && all_hold force before) longer.holds ∙ through.holds;
-          distance = omega (arith, longer.distance, through.distance);
-          steps = omega (arith, longer.steps, through.steps);
-        }
+  -- ---- up to the speed v
 
-    longer_under : (b : ℕ) → RunsUnder force b before run → RunsUnder force b (steps_through y (suc run.steps)) more
-    longer_under b under =
-        record {
-          through = longer_through under.through;
-          least = omega (arith, longer.least, under.least);
-          under = omega (arith, longer.least, under.under);
-        }
+  pub begins : (v : ℕ) (run : Run) → run.distance ≡ 0 → run.least ≡ no_less → run.steps ≡ 0 → Climbs force v run
+  begins v run distance least steps = record { within = omega (arith, steps); through = none_through _ run distance least steps }
 
-  -- ---- up to the speed v, under the brake force b
+  -- one step more, up to the next edge or to v
+  pub again : (v y : ℕ) (run more : Run) → IsLonger force (step y (edge run.steps)) run more → Climbs force v run → edge run.steps < v
+      → y ≡ min (edge (run.steps + 1)) v → Climbs force v more
+  again v y run more longer climbs below top =
+      let first : min (edge run.steps) v ≡ edge run.steps = omega (arith, below) in
+      let at_edge = subst (λ (x : ℕ). RunsThrough force (steps_through x run.steps) run) first climbs.through in
+      let next : suc run.steps ≡ more.steps = omega (arith, longer.steps) in
+      let upper : y ≡ min (edge more.steps) v = omega (arith, longer.steps, top) in
+      record {
+        within = omega (arith, longer.steps, (counted v run.steps).0 below);
+        through =
+            subst (λ (x : ℕ). RunsThrough force (steps_through x more.steps) more) upper
+            (subst (λ (k : ℕ). RunsThrough force (steps_through y k) more) next (longer_through y run more longer at_edge));
+      }
 
-  module _ (b v : ℕ) where
-    -- the run is of the steps up to an edge, or to v
-    pub record Climbs (run : Run) : Type 0 where
-      pub under : RunsUnder force b (steps_through (min (edge run.steps) v) run.steps) run
-      pub within : run.steps ≤ edges_below v
+  pub gives_way : (v y : ℕ) (run : Run) → int_le (pos 1000) (force (step y (edge run.steps))) ≡ false → edge run.steps < v
+      → y ≡ min (edge (run.steps + 1)) v → all_hold force (steps_from v) ≡ false
+  gives_way v y run weak below top = weak_below force v run.steps y below top weak
 
-    pub begins : (run : Run) → run.distance ≡ 0 → run.least ≡ b → run.steps ≡ 0 → Climbs run
-    begins run distance least steps = record { under = none_under b _ run distance least steps; within = omega (arith, steps) }
-
-    -- one step more, from y
-    module _ (y : ℕ) (run : Run) (climbs : Climbs run) (below : edge run.steps < v) (top : y ≡ min (edge (run.steps + 1)) v) where
-      at_edge : RunsUnder force b (steps_through (edge run.steps) run.steps) run
-      at_edge =
-          let same : min (edge run.steps) v ≡ edge run.steps = omega (arith, below) in
-          subst (λ (x : ℕ). RunsUnder force b (steps_through x run.steps) run) same climbs.under
-
-      pub again : (more : Run) → IsLonger force (step y (edge run.steps)) run more → Climbs more
-      again more longer =
-          let next : suc run.steps ≡ more.steps = omega (arith, longer.steps) in
-          let upper : y ≡ min (edge more.steps) v = omega (arith, longer.steps, top) in
-          let made = longer_under y run more longer b at_edge in
-          record {
-            under =
-                subst (λ (x : ℕ). RunsUnder force b (steps_through x more.steps) more) upper
-                (subst (λ (k : ℕ). RunsUnder force b (steps_through y k) more) next made);
-            within = omega (arith, longer.steps, (counted v run.steps).0 below);
-          }
-
-      pub gives_way : int_le (pos 1000) (force (step y (edge run.steps))) ≡ false → all_hold force (steps_from v) ≡ false
-      gives_way weak = weak_below force v run.steps y below top weak
-
-    pub ends : (run : Run) → Climbs run → v ≤ edge run.steps → RunsUnder force b (steps_from v) run
-    ends run climbs past =
-        let all : run.steps ≡ edges_below v = elim (dec_lt run.steps (edges_below v)) [ yes p ↦ absurd (omega (arith, past, (counted v run.steps).1 p)) | no p ↦ omega (arith, climbs.within) ] in
-        let top : min (edge run.steps) v ≡ v = omega (arith, past) in
-        subst (λ (k : ℕ). RunsUnder force b (steps_through v k) run) all
-        (subst (λ (x : ℕ). RunsUnder force b (steps_through x run.steps) run) top climbs.under)
+  pub ends : (v : ℕ) (run : Run) → Climbs force v run → v ≤ edge run.steps → RunsThrough force (steps_from v) run
+  ends v run climbs past =
+      let all : run.steps ≡ edges_below v = elim (dec_lt run.steps (edges_below v)) [ yes p ↦ absurd (omega (arith, past, (counted v run.steps).1 p)) | no p ↦ omega (arith, climbs.within) ] in
+      let top : min (edge run.steps) v ≡ v = omega (arith, past) in
+      subst (λ (k : ℕ). RunsThrough force (steps_through v k) run) all
+      (subst (λ (x : ℕ). RunsThrough force (steps_through x run.steps) run) top climbs.through)
 
   -- ---- from edge to edge
 
@@ -102,8 +88,8 @@ module _ (force : Step → ℤ) where
       ∙ ap (λ (t : Bool). t && all_hold force (steps_through (edge run.steps) run.steps)) weak
 
   -- at rest the run of no step is from the edge below 50
-  pub starts : (run : Run) → run.distance ≡ 0 → run.steps ≡ 0 → IsBelow force 50 run
-  starts run distance steps = record { count = omega (arith, steps); through = none_through _ run distance steps }
+  pub starts : (run : Run) → run.distance ≡ 0 → run.least ≡ no_less → run.steps ≡ 0 → IsBelow force 50 run
+  starts run distance least steps = record { count = omega (arith, steps); through = none_through _ run distance least steps }
 
   -- from one multiple of 50 to the next: the run from it is kept at an edge, and else the one from the edge below it
   pub moves_on : (v : ℕ) (run more next : Run) → 50 * (v / 50) ≡ v → IsBelow force v run → RunsThrough force (steps_from v) more

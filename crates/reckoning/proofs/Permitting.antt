@@ -1,5 +1,5 @@
 -- A speed that is asked for at a place that is approached, by stops over the approach.
-use Rattle.std.proofs.Common.{◌≡◌, ℕ, ◌+◌, ◌-◌, ◌*◌, ◌/◌, ◌<◌, ◌≤◌, Bool, true, false, cond, ◌==◌, leb, ℤ, is_none, Result, IfOk, sym, refl, ap, ◌∙◌, subst, arith, rules}
+use Rattle.std.proofs.Common.{◌≡◌, ℕ, ◌+◌, ◌-◌, ◌*◌, ◌/◌, ◌≤◌, true, cond, ◌==◌, ℤ, is_none, Result, IfOk, sym, refl, ap, ◌∙◌, subst, arith, rules}
 use Rattle.rules.specs.declared.figures.SpeedQuestion.{SpeedQuestion}
 use Rattle.rules.specs.declared.refusal.Refusal.{Refusal}
 use Rattle.rules.specs.Book.{Book}
@@ -8,45 +8,31 @@ use Rattle.rules.specs.Law.{Stock}
 use Rattle.rules.specs.Questions.{stopping, stop_questions}
 use Rattle.rules.specs.Refusals.{Reply, runs, first_no, decide, speed_reply, told, DecidedOnce}
 use Rattle.rules.specs.Speed.{last_before_failure, is_answered_at, permitted_speed, speed_questions, asked_for_speed, IsGreatestSpeed}
-use Rattle.rules.specs.Stop.{Approach as RuleApproach, approach_at, edge, steps_from, all_hold, brake_force, holding_force, delay_run}
+use Rattle.rules.specs.Stop.{Approach as RuleApproach, approach_at, edge, steps_from, holding_force, delay_run}
 use Rattle.rules.proofs.Speeds.{same_last, search_goes_on, speed_decides, speed_promised}
 use Rattle.reckoning.specs.declared.approach.Approach.{Approach}
 use Rattle.reckoning.specs.Approaches.{approach_of, IsApproach}
 use Rattle.reckoning.specs.declared.run.Run.{Run}
-use Rattle.reckoning.specs.Brakings.{RunsThrough, IsBelow}
+use Rattle.reckoning.specs.Brakings.{no_less, RunsThrough, IsBelow}
 use Rattle.reckoning.specs.Speeds.{is_answered, last_answered, PermitsOver}
 use Rattle.reckoning.proofs.Asking.{approached}
 use Rattle.reckoning.proofs.Brakings.{starts, moves_on}
 
--- a stop whose forces hold is answered where its distance lies within reach, and else none is
-module _ (k : Kind) (a : RuleApproach) (v : ℕ) where
-  pub weak_brake : brake_force a v < 1000 → is_answered k a v ≡ false
-  unfolding is_answered
-  weak_brake weak = grind arith
+-- at rest nothing is run before the brakes hold
+pub delay_at_rest : (k : Kind) (b : ℕ) (g : ℤ) → delay_run k 0 b g ≡ 0
+unfolding delay_run
+delay_at_rest k b g = search rules
 
-  pub weak_step : all_hold (holding_force a) (steps_from v) ≡ false → is_answered k a v ≡ false
-  unfolding is_answered
-  weak_step weak = grind arith
-
-  pub tested : (b d : ℕ) (run : Run) (r : Bool) → b ≡ brake_force a v → 1000 ≤ b → RunsThrough (holding_force a) (steps_from v) run
-      → d ≡ delay_run k v b a.lowest + run.distance → r ≡ leb d (1000 * a.reach) → r ≡ is_answered k a v
-  unfolding is_answered
-  tested b d run r is strong through sum in_reach =
-      let holds = through.holds in
-      let length = through.distance in
-      grind arith
-
--- ---- the search
-
+-- a search for the last speed at which a stop is answered
 module _ (k : Kind) (a : RuleApproach) where
-  -- the stops from each speed up to the greatest are answered, and the run is from the edge below the next
+  -- the stop from each speed up to the greatest is answered, and the run is from the next edge below the speed after that
   pub record Tried (greatest : ℕ) (under : Run) : Type 0 where
     pub answered : last_before_failure (is_answered k a) greatest ((1600 - greatest) / 50) ≡ last_answered k a
     pub multiple : 50 * (greatest / 50) ≡ greatest
     pub below : IsBelow (holding_force a) (greatest + 50) under
 
-  pub begins : (at_rest : Run) → at_rest.distance ≡ 0 → at_rest.steps ≡ 0 → Tried 0 at_rest
-  begins at_rest distance steps = record { answered = refl; multiple = refl; below = starts (holding_force a) at_rest distance steps }
+  pub begins : (none : Run) → none.distance ≡ 0 → none.least ≡ no_less → none.steps ≡ 0 → Tried 0 none
+  begins none distance least steps = record { answered = refl; multiple = refl; below = starts (holding_force a) none distance least steps }
 
   pub goes_on : (greatest v : ℕ) (below run next : Run) → Tried greatest below → v ≡ greatest + 50 → v ≤ 1600 → is_answered k a v ≡ true
       → RunsThrough (holding_force a) (steps_from v) run → next ≡ cond (v == edge run.steps) run below → Tried v next
@@ -58,11 +44,6 @@ module _ (k : Kind) (a : RuleApproach) where
         multiple = multiple;
         below = moves_on (holding_force a) v below run next multiple (subst (λ (x : ℕ). IsBelow (holding_force a) x below) (sym is) tried.below) through kept;
       }
-
--- at rest nothing is run before the brakes hold
-pub delay_at_rest : (k : Kind) (b : ℕ) (g : ℤ) → delay_run k 0 b g ≡ 0
-unfolding delay_run
-delay_at_rest k b g = search rules
 
 -- what is promised of a speed that is replied over the approach of the code
 module _ (k : Kind) (s : Stock) (b : Book) (q : SpeedQuestion) (a : Approach) (here : IsApproach b q.place q.factor a) where

@@ -19,6 +19,10 @@ abbrev pub IsStrong : RuleApproach → ℕ → Result ℕ Refusal → Type 0
 IsStrong a v (Ok b) = (b ≡ brake_force a v) × (1000 ≤ b)
 IsStrong a v (Err e) = (number_of e ≡ 10) × (brake_force a v < 1000)
 
+-- the least force of a run without a step: no brake force is greater
+abbrev pub no_less : ℕ
+no_less = 4294967295
+
 -- a run with the step s more
 pub record IsLonger (force : Step → ℤ) (s : Step) (run more : Run) : Type 0 where
   pub holds : int_le (pos 1000) (force s) ≡ true
@@ -35,20 +39,25 @@ StepAdded force s run (Err e) = (number_of e ≡ 11) × (int_le (pos 1000) (forc
 pub record RunsThrough (force : Step → ℤ) (all : List Step) (run : Run) : Type 0 where
   pub holds : all_hold force all ≡ true
   pub distance : run.distance ≡ braking_distance force all
+  pub least : run.least ≡ least_of no_less (map (λ s. natural_of (force s)) all)
   pub steps : run.steps ≡ length all
 
--- the same under the brake force b
-pub record RunsUnder (force : Step → ℤ) (b : ℕ) (all : List Step) (run : Run) : Type 0 where
-  pub through : RunsThrough force all run
-  pub least : run.least ≡ least_of b (map (λ s. natural_of (force s)) all)
-  pub under : run.least ≤ b
-
 -- all steps of a stop from v where every force holds the train, and else refused
-abbrev pub Braked : (Step → ℤ) → ℕ → ℕ → Result Run Refusal → Type 0
-Braked force b v (Ok run) = RunsUnder force b (steps_from v) run
-Braked force b v (Err e) = (number_of e ≡ 11) × (all_hold force (steps_from v) ≡ false)
+abbrev pub Braked : (Step → ℤ) → ℕ → Result Run Refusal → Type 0
+Braked force v (Ok run) = RunsThrough force (steps_from v) run
+Braked force v (Err e) = (number_of e ≡ 11) × (all_hold force (steps_from v) ≡ false)
 
--- a run from the next lower edge below v
+-- the lowest steps of a stop from v, up to an edge or to v
+pub record Climbs (force : Step → ℤ) (v : ℕ) (run : Run) : Type 0 where
+  pub within : run.steps ≤ edges_below v
+  pub through : RunsThrough force (steps_through (min (edge run.steps) v) run.steps) run
+
+-- one of them more than in a run where its force holds the train, and else refused
+abbrev pub Climbed : (Step → ℤ) → ℕ → Run → Result Run Refusal → Type 0
+Climbed force v run (Ok more) = Climbs force v more × (more.steps ≡ run.steps + 1)
+Climbed force v run (Err e) = (number_of e ≡ 11) × (all_hold force (steps_from v) ≡ false)
+
+-- a run from the next edge below v
 pub record IsBelow (force : Step → ℤ) (v : ℕ) (run : Run) : Type 0 where
   pub count : edges_below v ≡ suc run.steps
   pub through : RunsThrough force (steps_through (edge run.steps) run.steps) run

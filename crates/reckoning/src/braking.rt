@@ -1,4 +1,4 @@
-ghost use Rattle.std.specs.Prelude.{◌≡◌, ◌+◌, ◌*◌, ◌^◌, ◌≤◌, nat_le};
+ghost use Rattle.std.specs.Prelude.{◌≡◌, ◌+◌, ◌*◌, ◌^◌, ◌<◌, ◌≤◌, min, nat_le};
 ghost use Rattle.rules.specs.Kind.{kind};
 ghost use Rattle.rules.specs.Stop.{brake_force, drag_in, train_drag, holding_force, delay_run, edge, step};
 ghost use Rattle.rules.specs.Ratio.{ratio};
@@ -11,7 +11,7 @@ use laws::{BrakeKind, Running, StockLaws};
 use rules::Refusal;
 use units::{BrakeRatio, Milli, Speed};
 
-// A train that brakes: what its approach reads of the sheet, with how hard its brakes press, and the laws of its stock.
+// A train that brakes: what its approach reads of the sheet, how hard its blocks are pressed on, and the laws of its stock.
 #[derive(Drop)]
 pub(crate) struct Braking<'a, S> {
     approach: Approach,
@@ -21,7 +21,7 @@ pub(crate) struct Braking<'a, S> {
 }
 
 impl<'a, S: StockLaws> Braking<'a, S> {
-    ghost use Rattle.reckoning.specs.Brakings.{train_of, IsStrong, StepAdded, Braked};
+    ghost use Rattle.reckoning.specs.Brakings.{train_of, IsStrong, StepAdded, Braked, Climbs, Climbed};
 
     pub(crate) fn new(approach: Approach, stock: &'a S) -> Braking<'a, S>
         ensures approach { result.approach ≡ approach }
@@ -118,16 +118,35 @@ impl<'a, S: StockLaws> Braking<'a, S> {
         Ok(below.with(step, force as u64))
     }
 
-    // The steps of a stop from a speed under a brake force, from the lowest one on; refused where the train is not held in one.
-    #[tactic(auto, using(crate::proofs::Brakings::begins, crate::proofs::Brakings::again, crate::proofs::Brakings::gives_way, crate::proofs::Brakings::ends))]
-    pub(crate) fn run(&self, v: Speed, brake: Milli) -> Result<Run, Refusal>
-        ensures { Braked (holding_force (train_of S.meaning self.now)) brake v result }
+    // The steps of a stop from a speed, from the lowest one on; refused where the train is not held in one.
+    #[tactic(auto, using(crate::proofs::Brakings::begins, crate::proofs::Brakings::ends))]
+    pub(crate) fn run(&self, v: Speed) -> Result<Run, Refusal>
+        ensures { Braked (holding_force (train_of S.meaning self.now)) v result }
     {
-        let mut run = Run::at_rest(brake);
+        let mut run = Run::none();
         while edge(run.steps) < v {
-            run = self.run_over(run, edge(run.steps + 1).min(v))?;
+            run = self.climb(run, v)?;
         }
         Ok(run)
+    }
+
+    // The lowest steps of a stop from a speed, one more than in a run: up to the next edge, or to that speed.
+    #[tactic(auto, using(crate::proofs::Brakings::again, crate::proofs::Brakings::gives_way))]
+    fn climb(&self, run: Run, v: Speed) -> Result<Run, Refusal>
+        requires climbs { Climbs (holding_force (train_of S.meaning self.now)) v run }
+        requires below { edge run.steps < v }
+        ensures { Climbed (holding_force (train_of S.meaning self.now)) v run result }
+    {
+        self.run_over(run, edge(run.steps + 1).min(v))
+    }
+
+    // Whether the train stops from a speed within the braking distance, where its forces hold it.
+    pub(crate) fn is_in_time<K: BrakeKind>(&self, v: Speed, brake: Milli, run: Run) -> bool
+        requires { 1 ≤ brake }
+        ensures { result ≡ nat_le (delay_run (kind K.T K.C) v brake self.now.approach.lowest + run.distance) (1000 * self.now.approach.reach) }
+    {
+        self.approach
+            .is_within_reach(self.distance::<K>(v, brake, run))
     }
 
     // The distance in millimetres in which the train stops from a speed: what it runs before the brakes hold, and its steps.
@@ -149,12 +168,5 @@ impl<'a, S: StockLaws> Braking<'a, S> {
         let fall = u64::from(self.approach.lowest.fall().count());
         let parts = 1000 * u64::from(K::T) * brake + 1000 * u64::from(K::C) * fall;
         (u64::from(v.tenths()) * parts).div_ceil(36 * brake)
-    }
-
-    // Whether a distance in millimetres lies within the braking distance.
-    pub(crate) fn is_within_reach(&self, distance: u64) -> bool
-        ensures { result ≡ nat_le distance (1000 * self.now.approach.reach) }
-    {
-        self.approach.is_within_reach(distance)
     }
 }

@@ -3,10 +3,9 @@ ghost use Rattle.reckoning.specs.Bounds.{step_limit};
 ghost use Rattle.rules.specs.Stop.{braking_run};
 
 use crate::step::Step;
-use units::Milli;
 
-// The steps from a speed down to a stand: their distance in millimetres, the least of their forces and of a brake force, and
-// their number. A run of k steps that begins at an edge begins at edge k.
+// The steps from a speed down to a stand: their distance in millimetres, the least of their forces, which no brake force exceeds
+// where there is no step, and their number. A run of k steps that begins at an edge begins at edge k.
 #[derive(Clone, Copy)]
 pub(crate) struct Run {
     pub(crate) distance: u64,
@@ -17,15 +16,17 @@ pub(crate) struct Run {
 }
 
 impl Run {
-    // No step, under a brake force.
-    pub(crate) fn at_rest(brake: Milli) -> Run
+    ghost use Rattle.reckoning.specs.Brakings.{no_less};
+
+    // No step, and so no force.
+    pub(crate) fn none() -> Run
         ensures distance { result.distance ≡ 0 }
-        ensures least { result.least ≡ brake }
+        ensures least { result.least ≡ no_less }
         ensures steps { result.steps ≡ 0 }
     {
         Run {
             distance: 0,
-            least: u64::from(brake.count()),
+            least: u64::from(u32::MAX),
             steps: 0,
         }
     }

@@ -24,18 +24,17 @@ pub(crate) fn permitted_speed<K: BrakeKind, S: StockLaws>(
 {
     let train = Braking::new(*approach, stock);
     // At rest a train that is held needs no distance.
-    let brake = train.strong_brake(Speed::capped(0))?;
-    Ok(last_in_time::<K, S>(&train, Run::at_rest(brake)))
+    train.strong_brake(Speed::capped(0))?;
+    Ok(last_in_time::<K, S>(&train))
 }
 
-// The same of a train that is held at rest, by its run there.
+// The same of a train that is held at rest.
 #[tactic(auto, using(rules::proofs::Speeds::search_fails, rules::proofs::Speeds::search_ends, crate::proofs::Permitting::begins, crate::proofs::Permitting::goes_on, crate::proofs::Brakings::room))]
-fn last_in_time<K: BrakeKind, S: StockLaws>(train: &Braking<S>, at_rest: Run) -> Speed
-    requires { (at_rest.distance ≡ 0) × (at_rest.steps ≡ 0) }
+fn last_in_time<K: BrakeKind, S: StockLaws>(train: &Braking<S>) -> Speed
     ensures { result ≡ last_answered (kind K.T K.C) (train_of S.meaning train.now) }
 {
     let mut greatest = Speed::capped(0);
-    let mut below = at_rest;
+    let mut below = Run::none();
     while let Some(next) = faster(greatest) {
         let Ok(run) = run_in_time::<K, S>(train, below, next) else {
             return greatest;
@@ -46,8 +45,8 @@ fn last_in_time<K: BrakeKind, S: StockLaws>(train: &Braking<S>, at_rest: Run) ->
     greatest
 }
 
-// The run from a speed, over that from the next lower edge; refused where the train does not stop within the braking distance.
-#[tactic(auto, using(crate::proofs::Brakings::room, crate::proofs::Brakings::stays_weak, crate::proofs::Permitting::weak_brake, crate::proofs::Permitting::weak_step))]
+// The run from a speed, over that from the next edge below; refused where the train does not stop within the braking distance.
+#[tactic(auto, using(crate::proofs::Brakings::room, crate::proofs::Brakings::reaches, crate::proofs::Brakings::stays_weak), unfolding(crate::specs::Speeds::is_answered))]
 fn run_in_time<K: BrakeKind, S: StockLaws>(
     train: &Braking<S>,
     below: Run,
@@ -58,7 +57,7 @@ fn run_in_time<K: BrakeKind, S: StockLaws>(
 {
     let brake = train.strong_brake(v)?;
     let run = train.run_over(below, v)?;
-    if !train.is_within_reach(train.distance::<K>(v, brake, run)) {
+    if !train.is_in_time::<K>(v, brake, run) {
         return Err(Refusal::StopsTooFar);
     }
     Ok(run)
