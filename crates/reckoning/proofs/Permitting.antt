@@ -1,30 +1,49 @@
 -- A speed that is asked for at a place that is approached, by stops over the approach.
-use Rattle.std.proofs.Common.{◌≡◌, ℕ, ◌+◌, ◌*◌, ◌≤◌, Bool, leb, [], ℤ, is_none, Result, IfOk, sym, ap, ◌∙◌, arith, rules}
+use Rattle.std.proofs.Common.{◌≡◌, ℕ, ◌+◌, ◌-◌, ◌*◌, ◌/◌, ◌≤◌, true, cond, ◌==◌, ℤ, is_none, Result, IfOk, sym, refl, ap, ◌∙◌, subst, arith, rules}
 use Rattle.rules.specs.declared.figures.SpeedQuestion.{SpeedQuestion}
 use Rattle.rules.specs.declared.refusal.Refusal.{Refusal}
 use Rattle.rules.specs.Book.{Book}
 use Rattle.rules.specs.Kind.{Kind}
 use Rattle.rules.specs.Law.{Stock}
-use Rattle.rules.specs.Questions.{braking, stopping, stop_questions, stop_figures}
-use Rattle.rules.specs.Refusals.{Reply, runs, stops, first_no, decide, speed_reply, told, DecidedOnce}
-use Rattle.rules.specs.Speed.{is_answered_at, permitted_speed, speed_questions, asked_for_speed, IsGreatestSpeed}
-use Rattle.rules.specs.Stop.{Approach as RuleApproach, approach_at, delay_run}
-use Rattle.rules.proofs.Speeds.{same_last, speed_decides, speed_promised}
+use Rattle.rules.specs.Questions.{stopping, stop_questions}
+use Rattle.rules.specs.Refusals.{Reply, runs, first_no, decide, speed_reply, told, DecidedOnce}
+use Rattle.rules.specs.Speed.{last_before_failure, is_answered_at, permitted_speed, speed_questions, asked_for_speed, IsGreatestSpeed}
+use Rattle.rules.specs.Stop.{Approach as RuleApproach, approach_at, edge, steps_from, holding_force, delay_run}
+use Rattle.rules.proofs.Speeds.{same_last, search_goes_on, speed_decides, speed_promised}
 use Rattle.reckoning.specs.declared.approach.Approach.{Approach}
 use Rattle.reckoning.specs.Approaches.{approach_of, IsApproach}
+use Rattle.reckoning.specs.declared.run.Run.{Run}
+use Rattle.reckoning.specs.Brakings.{no_less, RunsThrough, IsBelow}
 use Rattle.reckoning.specs.Speeds.{is_answered, last_answered, PermitsOver}
 use Rattle.reckoning.proofs.Asking.{approached}
-
--- a stop whose forces hold is answered where its distance lies within reach
-pub tested : (k : Kind) (a : RuleApproach) (v d m n : ℕ) (r : Bool) → stops d m n ≡ decide (first_no (braking a v [])) (stop_figures k a v)
-    → r ≡ leb d (1000 * a.reach) → r ≡ is_answered k a v
-unfolding is_answered
-tested k a v d m n r reply is = grind arith
+use Rattle.reckoning.proofs.Brakings.{starts, moves_on}
 
 -- at rest nothing is run before the brakes hold
 pub delay_at_rest : (k : Kind) (b : ℕ) (g : ℤ) → delay_run k 0 b g ≡ 0
 unfolding delay_run
 delay_at_rest k b g = search rules
+
+-- a search for the last speed at which a stop is answered
+module _ (k : Kind) (a : RuleApproach) where
+  -- the stop from each speed up to the greatest is answered, and the run is from the next edge below the speed after that
+  pub record Tried (greatest : ℕ) (under : Run) : Type 0 where
+    pub answered : last_before_failure (is_answered k a) greatest ((1600 - greatest) / 50) ≡ last_answered k a
+    pub multiple : 50 * (greatest / 50) ≡ greatest
+    pub below : IsBelow (holding_force a) (greatest + 50) under
+
+  pub begins : (none : Run) → none.distance ≡ 0 → none.least ≡ no_less → none.steps ≡ 0 → Tried 0 none
+  begins none distance least steps = record { answered = refl; multiple = refl; below = starts (holding_force a) none distance least steps }
+
+  pub goes_on : (greatest v : ℕ) (below run next : Run) → Tried greatest below → v ≡ greatest + 50 → v ≤ 1600 → is_answered k a v ≡ true
+      → RunsThrough (holding_force a) (steps_from v) run → next ≡ cond (v == edge run.steps) run below → Tried v next
+  goes_on greatest v below run next tried is room here through kept =
+      let multiple : 50 * (v / 50) ≡ v = omega (arith, is, tried.multiple) in
+      let more = search_goes_on (is_answered k a) 1600 greatest (omega (arith, is, room)) (subst (λ (x : ℕ). is_answered k a x ≡ true) is here) in
+      record {
+        answered = subst (λ (x : ℕ). last_before_failure (is_answered k a) x ((1600 - x) / 50) ≡ last_answered k a) (sym is) (sym more ∙ tried.answered);
+        multiple = multiple;
+        below = moves_on (holding_force a) v below run next multiple (subst (λ (x : ℕ). IsBelow (holding_force a) x below) (sym is) tried.below) through kept;
+      }
 
 -- what is promised of a speed that is replied over the approach of the code
 module _ (k : Kind) (s : Stock) (b : Book) (q : SpeedQuestion) (a : Approach) (here : IsApproach b q.place q.factor a) where

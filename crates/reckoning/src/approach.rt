@@ -67,6 +67,7 @@ impl Approach {
 
     // How the train stops from a speed, by a kind of brake and a stock: its distance in millimetres, the least force in milli, and
     // the number of its steps; refused where a force does not hold the train. Whether it stops in time is not judged.
+    #[tactic(auto, using(crate::proofs::Brakings::least_under))]
     pub(crate) fn reckon<K: BrakeKind, S: StockLaws>(
         &self,
         stock: &S,
@@ -75,13 +76,11 @@ impl Approach {
         ensures { stop_reply result ≡ decide (first_no (braking (approach_of self.now (S.meaning stock.now)) v [])) (stop_figures (kind K.T K.C) (approach_of self.now (S.meaning stock.now)) v) }
     {
         let train = Braking::new(*self, stock);
-        let brake = train.brake_force(v);
-        if brake.count() < 1000 {
-            return Err(Refusal::WeakBrake);
-        }
-        let run = train.run(v, brake)?;
-        let distance = train.delay::<K>(v, brake) + run.distance;
-        Ok((distance, run.least as u32, run.steps))
+        let brake = train.strong_brake(v)?;
+        let run = train.run(v)?;
+        let distance = train.distance::<K>(v, brake, run);
+        let least = run.least.min(u64::from(brake.count()));
+        Ok((distance, least as u32, run.steps))
     }
 
     // Whether a distance in millimetres lies within the braking distance.

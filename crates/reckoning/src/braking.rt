@@ -1,51 +1,58 @@
-ghost use Rattle.std.specs.Prelude.{◌≡◌, ◌+◌, ◌*◌, ◌^◌, ◌≤◌, min};
+ghost use Rattle.std.specs.Prelude.{◌≡◌, ◌+◌, ◌*◌, ◌^◌, ◌<◌, ◌≤◌, min, nat_le};
 ghost use Rattle.rules.specs.Kind.{kind};
-ghost use Rattle.reckoning.specs.Bounds.{step_limit};
-ghost use Rattle.rules.specs.Stop.{brake_force, drag_in, train_drag, holding_force, delay_run, braking_run};
+ghost use Rattle.rules.specs.Stop.{brake_force, drag_in, train_drag, holding_force, delay_run, edge, step};
+ghost use Rattle.rules.specs.Ratio.{ratio};
 
 use crate::approach::Approach;
+use crate::edges::edge;
+use crate::run::Run;
 use crate::step::Step;
-use crate::steps::Steps;
 use laws::{BrakeKind, Running, StockLaws};
 use rules::Refusal;
 use units::{BrakeRatio, Milli, Speed};
 
-// A train that brakes: what its approach reads of the sheet, and the laws of its stock.
+// A train that brakes: what its approach reads of the sheet, how hard its blocks are pressed on, and the laws of its stock.
 #[derive(Drop)]
 pub(crate) struct Braking<'a, S> {
     approach: Approach,
+    pressing: BrakeRatio,
     stock: &'a S,
-}
-
-// The steps of a stop: their distance in millimetres, the least of their forces and the brake force, and their number.
-#[derive(Clone, Copy)]
-pub(crate) struct Run {
-    pub(crate) distance: u64,
-    pub(crate) least: u64,
-    pub(crate) steps: u32,
+    ghost pressed: { pressing ≡ ratio (approach.factor * approach.pressure) (10 * (approach.hauling + approach.trailing)) },
 }
 
 impl<'a, S: StockLaws> Braking<'a, S> {
-    ghost use Rattle.reckoning.specs.Brakings.{train_of, StepAdded, Braked};
+    ghost use Rattle.reckoning.specs.Brakings.{train_of, IsStrong, StepAdded, Braked, Climbs, Climbed};
 
     pub(crate) fn new(approach: Approach, stock: &'a S) -> Braking<'a, S>
         ensures approach { result.approach ≡ approach }
         ensures stock { result.stock.now ≡ stock.now }
     {
-        Braking { approach, stock }
+        let pressed = approach.factor * approach.pressure;
+        let weight = 10 * (approach.hauling + approach.trailing);
+        Braking {
+            approach,
+            pressing: BrakeRatio::new(pressed, weight).unwrap(),
+            stock,
+        }
     }
 
     // The brake force at a speed.
     #[tactic(auto, unfolding(rules::specs::Stop::brake_force))]
-    pub(crate) fn brake_force(&self, v: Speed) -> Milli
+    fn brake_force(&self, v: Speed) -> Milli
         ensures { result ≡ brake_force (train_of S.meaning self.now) v }
     {
-        let train = &self.approach;
-        let pressed = train.factor * train.pressure;
-        let weight = 10 * (train.hauling + train.trailing);
-        self.stock
-            .friction_below(v)
-            .braking(BrakeRatio::new(pressed, weight).unwrap())
+        self.stock.friction_below(v).braking(self.pressing)
+    }
+
+    // The brake force at the speed from which a train stops; refused where it is weak.
+    pub(crate) fn strong_brake(&self, v: Speed) -> Result<Milli, Refusal>
+        ensures { IsStrong (train_of S.meaning self.now) v result }
+    {
+        let brake = self.brake_force(v);
+        if brake.count() < 1000 {
+            return Err(Refusal::WeakBrake);
+        }
+        Ok(brake)
     }
 
     // The drag of the train in a step.
@@ -95,38 +102,64 @@ impl<'a, S: StockLaws> Braking<'a, S> {
             .holding_milli(self.brake_force(step.top()), self.drag(step))
     }
 
-    // The run with one step more; refused where the train is not held in it.
-    fn with_step(&self, run: Run, step: Step) -> Result<Run, Refusal>
-        requires small { run.distance ≤ 26 * step_limit }
-        requires steps { run.steps ≤ 26 }
-        ensures { StepAdded (holding_force (train_of S.meaning self.now)) step run result }
+    // The run from a speed: one step down to the edge where a run begins, and that run; refused where the train is not held in
+    // that step. In line, since loops are made of it.
+    #[inline(always)]
+    pub(crate) fn run_over(&self, below: Run, v: Speed) -> Result<Run, Refusal>
+        requires few { below.steps ≤ 26 }
+        requires above { edge below.steps ≤ v }
+        ensures { StepAdded (holding_force (train_of S.meaning self.now)) (step v (edge below.steps)) below result }
     {
+        let step = Step::new(v, edge(below.steps));
         let force = self.holding(step);
         if force < 1000 {
             return Err(Refusal::WeakStep);
         }
-        Ok(run.with(step, force as u64))
+        Ok(below.with(step, force as u64))
     }
 
-    // The steps of a stop from a speed under a brake force; refused where the train is not held in one.
-    #[tactic(auto, using(crate::proofs::Brakings::begins, crate::proofs::Brakings::room, crate::proofs::Brakings::again, crate::proofs::Brakings::gives_way, crate::proofs::Brakings::ends))]
-    pub(crate) fn run(&self, v: Speed, brake: Milli) -> Result<Run, Refusal>
-        ensures { Braked (holding_force (train_of S.meaning self.now)) brake v result }
+    // The steps of a stop from a speed, from the lowest one on; refused where the train is not held in one.
+    #[tactic(auto, using(crate::proofs::Brakings::begins, crate::proofs::Brakings::ends))]
+    pub(crate) fn run(&self, v: Speed) -> Result<Run, Refusal>
+        ensures { Braked (holding_force (train_of S.meaning self.now)) v result }
     {
-        let mut run = Run {
-            distance: 0,
-            least: u64::from(brake.count()),
-            steps: 0,
-        };
-        for step in Steps::from(v) {
-            run = self.with_step(run, step)?;
+        let mut run = Run::none();
+        while edge(run.steps) < v {
+            run = self.climb(run, v)?;
         }
         Ok(run)
     }
 
+    // The lowest steps of a stop from a speed, one more than in a run: up to the next edge, or to that speed.
+    #[tactic(auto, using(crate::proofs::Brakings::again, crate::proofs::Brakings::gives_way))]
+    fn climb(&self, run: Run, v: Speed) -> Result<Run, Refusal>
+        requires climbs { Climbs (holding_force (train_of S.meaning self.now)) v run }
+        requires below { edge run.steps < v }
+        ensures { Climbed (holding_force (train_of S.meaning self.now)) v run result }
+    {
+        self.run_over(run, edge(run.steps + 1).min(v))
+    }
+
+    // Whether the train stops from a speed within the braking distance, where its forces hold it.
+    pub(crate) fn is_in_time<K: BrakeKind>(&self, v: Speed, brake: Milli, run: Run) -> bool
+        requires { 1 ≤ brake }
+        ensures { result ≡ nat_le (delay_run (kind K.T K.C) v brake self.now.approach.lowest + run.distance) (1000 * self.now.approach.reach) }
+    {
+        self.approach
+            .is_within_reach(self.distance::<K>(v, brake, run))
+    }
+
+    // The distance in millimetres in which the train stops from a speed: what it runs before the brakes hold, and its steps.
+    pub(crate) fn distance<K: BrakeKind>(&self, v: Speed, brake: Milli, run: Run) -> u64
+        requires { 1 ≤ brake }
+        ensures { result ≡ delay_run (kind K.T K.C) v brake self.now.approach.lowest + run.distance }
+    {
+        self.delay::<K>(v, brake) + run.distance
+    }
+
     // The distance in millimetres that the train runs before the brakes hold.
     #[tactic(auto, using(crate::proofs::Bounds::delay_small, crate::proofs::Bounds::quotient_small), unfolding(rules::specs::Stop::delay_run))]
-    pub(crate) fn delay<K: BrakeKind>(&self, v: Speed, brake: Milli) -> u64
+    fn delay<K: BrakeKind>(&self, v: Speed, brake: Milli) -> u64
         requires { 1 ≤ brake }
         ensures value { result ≡ delay_run (kind K.T K.C) v brake self.now.approach.lowest }
         ensures small { result ≤ 1600 * (180000 * 2 ^ 32) }
@@ -135,24 +168,5 @@ impl<'a, S: StockLaws> Braking<'a, S> {
         let fall = u64::from(self.approach.lowest.fall().count());
         let parts = 1000 * u64::from(K::T) * brake + 1000 * u64::from(K::C) * fall;
         (u64::from(v.tenths()) * parts).div_ceil(36 * brake)
-    }
-}
-
-impl Run {
-    // With one step more, under a force in milli.
-    fn with(self, step: Step, force: u64) -> Run
-        requires force { 1 ≤ force }
-        requires small { self.distance ≤ 26 * step_limit }
-        requires steps { self.steps ≤ 26 }
-        ensures distance { result.distance ≡ self.distance + braking_run step force }
-        ensures small { result.distance ≤ self.distance + step_limit }
-        ensures least { result.least ≡ min self.least force }
-        ensures steps { result.steps ≡ self.steps + 1 }
-    {
-        Run {
-            distance: self.distance + step.run(force),
-            least: self.least.min(force),
-            steps: self.steps + 1,
-        }
     }
 }

@@ -1,5 +1,5 @@
 ghost use Rattle.std.specs.Prelude.{◌≡◌, ◌≤◌};
-ghost use Rattle.rules.specs.Stop.{edge, edges_below};
+ghost use Rattle.rules.specs.Stop.{edge};
 
 use units::Speed;
 
@@ -9,12 +9,4 @@ pub(crate) fn edge(k: u32) -> Speed
     ensures { result ≡ edge k }
 {
     Speed::capped((100 * k).min(250 + 50 * k))
-}
-
-// How many edges lie below a speed.
-pub(crate) fn edges_below(v: Speed) -> u32
-    ensures { result ≡ edges_below v }
-{
-    let v = v.tenths();
-    ((v + 99) / 100).max((v.saturating_sub(250) + 49) / 50)
 }

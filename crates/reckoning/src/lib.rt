@@ -7,9 +7,9 @@ mod approach;
 mod braking;
 mod edges;
 pub mod questions;
+mod run;
 mod search;
 mod step;
-mod steps;
 
 pub use allowances::allowance;
 pub use questions::{speed, stop};

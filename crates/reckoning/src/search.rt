@@ -1,9 +1,14 @@
 ghost use Rattle.reckoning.specs.Approaches.{approach_of};
-ghost use Rattle.reckoning.specs.Speeds.{is_answered, last_answered, PermitsOver};
+ghost use Rattle.reckoning.specs.Brakings.{train_of, IsBelow, RunInTime};
+ghost use Rattle.reckoning.specs.Speeds.{last_answered, PermitsOver};
 ghost use Rattle.rules.specs.Kind.{kind};
-ghost use Rattle.std.specs.Prelude.{◌≡◌, ◌+◌, ◌<◌, MatchOption};
+ghost use Rattle.rules.specs.Stop.{edge, holding_force};
+ghost use Rattle.std.specs.Prelude.{◌≡◌, ◌+◌, ◌<◌, ◌==◌, cond, MatchOption};
 
 use crate::approach::Approach;
+use crate::braking::Braking;
+use crate::edges::edge;
+use crate::run::Run;
 use laws::{BrakeKind, StockLaws};
 use rules::Refusal;
 use units::Speed;
@@ -17,35 +22,53 @@ pub(crate) fn permitted_speed<K: BrakeKind, S: StockLaws>(
 ) -> Result<Speed, Refusal>
     ensures { PermitsOver (kind K.T K.C) (approach_of approach.now (S.meaning stock.now)) result }
 {
+    let train = Braking::new(*approach, stock);
     // At rest a train that is held needs no distance.
-    approach.reckon::<K, S>(stock, Speed::capped(0))?;
-    Ok(last_in_time::<K, S>(approach, stock))
+    train.strong_brake(Speed::capped(0))?;
+    Ok(last_in_time::<K, S>(&train))
 }
 
 // The same of a train that is held at rest.
-#[tactic(auto, using(rules::proofs::Speeds::search_goes_on, rules::proofs::Speeds::search_fails, rules::proofs::Speeds::search_ends))]
-fn last_in_time<K: BrakeKind, S: StockLaws>(approach: &Approach, stock: &S) -> Speed
-    ensures { result ≡ last_answered (kind K.T K.C) (approach_of approach.now (S.meaning stock.now)) }
+#[tactic(auto, using(rules::proofs::Speeds::search_fails, rules::proofs::Speeds::search_ends, crate::proofs::Permitting::begins, crate::proofs::Permitting::goes_on, crate::proofs::Brakings::room))]
+fn last_in_time<K: BrakeKind, S: StockLaws>(train: &Braking<S>) -> Speed
+    ensures { result ≡ last_answered (kind K.T K.C) (train_of S.meaning train.now) }
 {
     let mut greatest = Speed::capped(0);
+    let mut below = Run::none();
     while let Some(next) = faster(greatest) {
-        if !stops_in_time::<K, S>(approach, stock, next) {
+        let Ok(run) = run_in_time::<K, S>(train, below, next) else {
             return greatest;
-        }
+        };
         greatest = next;
+        below = from_edge(below, run, next);
     }
     greatest
 }
 
-// Whether the train stops from a speed within the braking distance.
-#[tactic(auto, using(crate::proofs::Permitting::tested), unfolding(crate::specs::Speeds::is_answered))]
-fn stops_in_time<K: BrakeKind, S: StockLaws>(approach: &Approach, stock: &S, v: Speed) -> bool
-    ensures { result ≡ is_answered (kind K.T K.C) (approach_of approach.now (S.meaning stock.now)) v }
+// The run from a speed, over that from the next edge below; refused where the train does not stop within the braking distance.
+#[tactic(auto, using(crate::proofs::Brakings::room, crate::proofs::Brakings::reaches, crate::proofs::Brakings::stays_weak), unfolding(crate::specs::Speeds::is_answered))]
+fn run_in_time<K: BrakeKind, S: StockLaws>(
+    train: &Braking<S>,
+    below: Run,
+    v: Speed,
+) -> Result<Run, Refusal>
+    requires { IsBelow (holding_force (train_of S.meaning train.now)) v below }
+    ensures { RunInTime (kind K.T K.C) (train_of S.meaning train.now) v result }
 {
-    let Ok((distance, _, _)) = approach.reckon::<K, S>(stock, v) else {
-        return false;
-    };
-    approach.is_within_reach(distance)
+    let brake = train.strong_brake(v)?;
+    let run = train.run_over(below, v)?;
+    if !train.is_in_time::<K>(v, brake, run) {
+        return Err(Refusal::StopsTooFar);
+    }
+    Ok(run)
+}
+
+// The run from the highest edge that is not above a speed: the one from the speed itself where it is an edge, and else that
+// from the edge below it.
+fn from_edge(below: Run, run: Run, v: Speed) -> Run
+    ensures { result ≡ cond (v == edge run.steps) run below }
+{
+    if v == edge(run.steps) { run } else { below }
 }
 
 // The next multiple of 5 km/h, up to 160 km/h.
