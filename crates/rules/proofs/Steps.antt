@@ -56,7 +56,7 @@ module _ (force : Step → ℤ) where
   weak_first : (y z y' z' : ℕ) (rest : List Step) → y ≡ y' → z ≡ z' → holds_in (step y z) ≡ false → all_hold force (step y' z' ∷ rest) ≡ false
   weak_first y z y' z' rest top bottom weak =
       let here : holds_in (step y' z') ≡ false =
-        ap (λ (t : ℕ). holds_in (step t z')) (sym top) ∙ ap (λ (t : ℕ). holds_in (step y t)) (sym bottom) ∙ weak
+      ap (λ (t : ℕ). holds_in (step t z')) (sym top) ∙ ap (λ (t : ℕ). holds_in (step y t)) (sym bottom) ∙ weak
       in
       ap (λ (t : Bool). t && all_hold force rest) here
 
@@ -70,8 +70,8 @@ module _ (force : Step → ℤ) where
       elim (dec_lt n k) [
         | yes p ↦ weak_rest (holds_in (step (edge (suc k)) (edge k))) _ (weak_between k n y p top weak)
         | no p ↦
-          let last : n ≡ k = omega arith in
-          weak_first y (edge n) (edge (suc k)) (edge k) (steps_through (edge k) k) (omega (arith, top, last)) (ap edge last) weak
+            let last : n ≡ k = omega arith in
+            weak_first y (edge n) (edge (suc k)) (edge k) (steps_through (edge k) k) (omega (arith, top, last)) (ap edge last) weak
       ]
 
   weak_within : (k v n y : ℕ) → edges_below v ≡ k → n < k → y ≡ min (edge (n + 1)) v → holds_in (step y (edge n)) ≡ false
@@ -80,12 +80,12 @@ module _ (force : Step → ℤ) where
   weak_within (suc k) v n y count under top weak =
       elim (dec_lt n k) [
         | yes p ↦
-          let inner : edge (n + 1) < v = (counted v (n + 1)).1 (omega (arith, count)) in
-          weak_rest (holds_in (step v (edge k))) _ (weak_between k n y p (omega (arith, top, inner)) weak)
+            let inner : edge (n + 1) < v = (counted v (n + 1)).1 (omega (arith, count)) in
+            weak_rest (holds_in (step v (edge k))) _ (weak_between k n y p (omega (arith, top, inner)) weak)
         | no p ↦
-          let last : n ≡ k = omega arith in
-          let outer : v ≤ edge (n + 1) = outer_edge v (n + 1) (omega (arith, count)) in
-          weak_first y (edge n) v (edge k) (steps_through (edge k) k) (omega (arith, top, outer)) (ap edge last) weak
+            let last : n ≡ k = omega arith in
+            let outer : v ≤ edge (n + 1) = outer_edge v (n + 1) (omega (arith, count)) in
+            weak_first y (edge n) v (edge k) (steps_through (edge k) k) (omega (arith, top, outer)) (ap edge last) weak
       ]
     where
       outer_edge : (v k : ℕ) → edges_below v ≤ k → v ≤ edge k
