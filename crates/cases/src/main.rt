@@ -25,7 +25,7 @@ fn main(rt: HostRuntime) -> io::Result<()> {
 
 // The name and the text of the next run file, and the input behind it; none at the end.
 fn next_case(input: &[u8]) -> Option<(&[u8], &[u8], &[u8])> {
-    let (length, rest) = leading_number(input).ok()?;
+    let (length, rest) = leading_number(1, input).ok()?;
     let end = rest.iter().position(|byte| *byte == b'\n')?;
     let name = rest.get(..end)?;
     let rest = rest.get(end..)?.get(1..)?;

@@ -45,15 +45,15 @@ impl Entry for Head {
         (1, 1)
     }
 
-    fn read(line: &[u8]) -> Result<Head, Malformed> {
-        let [letter, b' ', rest @ ..] = line else {
-            return Err(Malformed);
+    fn read(line: u32, text: &[u8]) -> Result<Head, Fault> {
+        let [letter, b' ', rest @ ..] = text else {
+            return Err(Malformed::on(line));
         };
         let Ok(kind) = kind_of(*letter) else {
-            return Err(Malformed);
+            return Err(Malformed::on(line));
         };
         let Ok(distance) = number(rest) else {
-            return Err(Malformed);
+            return Err(Malformed::on(line));
         };
         Ok(Head { kind, distance })
     }

@@ -3,7 +3,7 @@ ghost use Rattle.rules.specs.declared.figures.PointFigures.{PointFigures as Give
 ghost use Rattle.runfile.specs.Sorts.{point_sort};
 
 use pull_table::{MOST_POINTS, first_break};
-use rules::{PointFigures, Refusal};
+use rules::{Fault, PointFigures, Refusal};
 use std::alloc::{AllocError, Global};
 use std::marker::Model;
 use text::{Entry, Malformed, Store, pair};
@@ -34,9 +34,9 @@ impl Entry for PointLine {
         (1, 16)
     }
 
-    fn read(line: &[u8]) -> Result<PointLine, Malformed> {
-        let Ok((speed, value)) = pair(line) else {
-            return Err(Malformed);
+    fn read(line: u32, text: &[u8]) -> Result<PointLine, Fault> {
+        let Ok((speed, value)) = pair(line, text) else {
+            return Err(Malformed::on(line));
         };
         let figures = PointFigures { speed, value };
         Ok(PointLine { figures })

@@ -1,10 +1,10 @@
 ghost use Rattle.std.specs.Prelude.{◌≡◌, ◌≤◌, List, [], length, vec_len, vec_capacity, IfOk};
 ghost use Rattle.rules.specs.declared.figures.Question.{Question as Asked};
 ghost use Rattle.runfile.specs.Sorts.{question_sort};
-ghost use Rattle.text.specs.Numerals.{Reads};
+ghost use Rattle.text.specs.Numerals.{ReadsOn};
 ghost use Rattle.text.specs.Sorts.{Says};
 
-use rules::{MassQuestion, Question, Refusal, SpeedQuestion, StopQuestion};
+use rules::{Fault, MassQuestion, Question, Refusal, SpeedQuestion, StopQuestion};
 use std::alloc::{AllocError, Global};
 use std::marker::Model;
 use text::{Entry, Malformed, Store, pair, triple};
@@ -25,13 +25,13 @@ impl Model for QuestionLine {
 }
 
 // The question that a line asks.
-fn question_on(line: &[u8]) -> Result<Question, Malformed>
-    ensures { Reads (Says question_sort line.now) result }
+fn question_on(line: u32, text: &[u8]) -> Result<Question, Fault>
+    ensures { ReadsOn line (Says question_sort text.now) result }
 {
-    match line {
+    match text {
         [b'S', b' ', rest @ ..] => {
-            let Ok((place, speed, factor)) = triple(rest) else {
-                return Err(Malformed);
+            let Ok((place, speed, factor)) = triple(line, rest) else {
+                return Err(Malformed::on(line));
             };
             Ok(Question::Stop(StopQuestion {
                 place,
@@ -40,18 +40,18 @@ fn question_on(line: &[u8]) -> Result<Question, Malformed>
             }))
         }
         [b'V', b' ', rest @ ..] => {
-            let Ok((place, factor)) = pair(rest) else {
-                return Err(Malformed);
+            let Ok((place, factor)) = pair(line, rest) else {
+                return Err(Malformed::on(line));
             };
             Ok(Question::Speed(SpeedQuestion { place, factor }))
         }
         [b'M', b' ', rest @ ..] => {
-            let Ok((speed, gross)) = pair(rest) else {
-                return Err(Malformed);
+            let Ok((speed, gross)) = pair(line, rest) else {
+                return Err(Malformed::on(line));
             };
             Ok(Question::Mass(MassQuestion { speed, gross }))
         }
-        _ => Err(Malformed),
+        _ => Err(Malformed::on(line)),
     }
 }
 
@@ -69,8 +69,8 @@ impl Entry for QuestionLine {
         (0, 200)
     }
 
-    fn read(line: &[u8]) -> Result<QuestionLine, Malformed> {
-        let question = question_on(line)?;
+    fn read(line: u32, text: &[u8]) -> Result<QuestionLine, Fault> {
+        let question = question_on(line, text)?;
         Ok(QuestionLine { question })
     }
 }

@@ -3,7 +3,7 @@ ghost use Rattle.rules.specs.Book.{lifted};
 ghost use Rattle.rules.specs.declared.figures.SectionFigures.{SectionFigures as GivenSection};
 ghost use Rattle.runfile.specs.Sorts.{section_sort};
 
-use rules::{Refusal, SectionFigures};
+use rules::{Fault, Refusal, SectionFigures};
 use sheet::Sheet;
 use std::marker::Model;
 use text::{Entry, Malformed, Store, leading_number, leading_signed, triple};
@@ -34,15 +34,15 @@ impl Entry for SectionLine {
         (0, 200)
     }
 
-    fn read(line: &[u8]) -> Result<SectionLine, Malformed> {
-        let Ok((metres, rest)) = leading_number(line) else {
-            return Err(Malformed);
+    fn read(line: u32, text: &[u8]) -> Result<SectionLine, Fault> {
+        let Ok((metres, rest)) = leading_number(line, text) else {
+            return Err(Malformed::on(line));
         };
-        let Ok((gradient, rest)) = leading_signed(rest) else {
-            return Err(Malformed);
+        let Ok((gradient, rest)) = leading_signed(line, rest) else {
+            return Err(Malformed::on(line));
         };
-        let Ok((curve, radius, stop)) = triple(rest) else {
-            return Err(Malformed);
+        let Ok((curve, radius, stop)) = triple(line, rest) else {
+            return Err(Malformed::on(line));
         };
         let figures = SectionFigures {
             metres,

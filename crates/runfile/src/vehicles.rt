@@ -4,7 +4,7 @@ ghost use Rattle.rules.specs.Questions.{lawful_letter};
 ghost use Rattle.runfile.specs.Sorts.{vehicle_sort};
 ghost use Rattle.text.specs.Numerals.{Reads};
 
-use rules::{Refusal, VehicleFigures};
+use rules::{Fault, Refusal, VehicleFigures};
 use sheet::Sheet;
 use std::marker::Model;
 use text::{Entry, Malformed, Store, leading_number, switch};
@@ -47,21 +47,21 @@ impl Entry for VehicleLine {
         (0, 120)
     }
 
-    fn read(line: &[u8]) -> Result<VehicleLine, Malformed> {
-        let [letter, b' ', rest @ ..] = line else {
-            return Err(Malformed);
+    fn read(line: u32, text: &[u8]) -> Result<VehicleLine, Fault> {
+        let [letter, b' ', rest @ ..] = text else {
+            return Err(Malformed::on(line));
         };
         let Ok(letter) = letter_of(*letter) else {
-            return Err(Malformed);
+            return Err(Malformed::on(line));
         };
-        let Ok((mass, rest)) = leading_number(rest) else {
-            return Err(Malformed);
+        let Ok((mass, rest)) = leading_number(line, rest) else {
+            return Err(Malformed::on(line));
         };
-        let Ok((pressure, rest)) = leading_number(rest) else {
-            return Err(Malformed);
+        let Ok((pressure, rest)) = leading_number(line, rest) else {
+            return Err(Malformed::on(line));
         };
         let Ok(braked) = switch(rest) else {
-            return Err(Malformed);
+            return Err(Malformed::on(line));
         };
         let figures = VehicleFigures {
             letter,

@@ -1,5 +1,7 @@
 -- How a number stands in a field.
 use Rattle.std.specs.Prelude.{◌≡◌, ℕ, suc, ◌^◌, ◌<◌, ◌≤◌, List, ◌∷◌, ◌++◌, length, get_or, ℤ, pos, negsuc, neg_ℤ, Ok, Err, decimal, Result, ◌≢◌}
+use Rattle.rules.specs.declared.fault.Fault.{Fault}
+use Rattle.rules.specs.declared.refusal.Refusal.TheVariants.{MalformedLine}
 use Rattle.std.specs.Fmt.{signed_decimal}
 use Rattle.std.specs.List.{AllByRecursion}
 use Rattle.std.specs.Str.Parse.{AllDigits, digits_value}
@@ -38,6 +40,15 @@ Below digits z = (n : ℕ) × (0 < n) × Numeral digits n × (z ≡ neg_ℤ (pos
 abbrev pub Reads : {X E : Type 0} → (X → Type 0) → Result X E → Type 0
 Reads Means (Ok x) = Means x
 Reads {X = X} Means (Err e) = (x : X) → Means x → ⊥
+
+-- a line that is not of its form
+abbrev pub malformed : ℕ → Fault
+malformed line = record { line = line; refusal = MalformedLine }
+
+-- what was read of a line is what is meant, or the line is told as not of its form, and nothing is meant
+abbrev pub ReadsOn : {X : Type 0} → ℕ → (X → Type 0) → Result X Fault → Type 0
+ReadsOn line Means (Ok x) = Means x
+ReadsOn {X = X} line Means (Err f) = (f ≡ malformed line) × ((x : X) → Means x → ⊥)
 
 -- mark does not stand in text
 abbrev pub Lacks : ℕ → List ℕ → Type 0

@@ -1,9 +1,8 @@
 ghost use Rattle.std.specs.Prelude.{◌≡◌, ℕ, List, [], ◌∷◌, ◌++◌, MatchOption};
-ghost use Rattle.text.specs.Numerals.{Reads};
+ghost use Rattle.text.specs.Numerals.{ReadsOn};
 ghost use Rattle.text.specs.Sorts.{Sort, Says, NamedBefore, Stored};
 
-use crate::malformed::Malformed;
-use rules::Refusal;
+use rules::{Fault, Refusal};
 
 /// A sort of line of a section, as what one such line says.
 pub trait Entry: Sized {
@@ -20,9 +19,9 @@ pub trait Entry: Sized {
     fn limits() -> (u32, u32)
         ensures { result ≡ (sort.least, sort.most) };
 
-    /// What a line says.
-    fn read(line: &[u8]) -> Result<Self, Malformed>
-        ensures { Reads (Says sort line.now) result };
+    /// What a line says; else the fault of the line, which is counted from 1.
+    fn read(line: u32, text: &[u8]) -> Result<Self, Fault>
+        ensures { ReadsOn line (Says sort text.now) result };
 }
 
 /// What holds the entries of one sort.

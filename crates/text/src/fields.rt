@@ -1,9 +1,10 @@
 ghost use Rattle.std.specs.Prelude.{◌≡◌, ℕ, List, ℤ, MatchOption, MatchResult};
-ghost use Rattle.text.specs.Numerals.{Reads, Lacks, Cut};
+ghost use Rattle.text.specs.Numerals.{Reads, ReadsOn, malformed, Lacks, Cut};
 ghost use Rattle.text.specs.Fields.{Leads, LeadsSigned, Two, Three, flag};
 
 use crate::malformed::Malformed;
 use crate::numbers::{number, signed_number};
+use rules::Fault;
 
 // What stands before the first `mark`, and what stands after it.
 pub(crate) fn cut(text: &[u8], mark: u8) -> Option<(&[u8], &[u8])>
@@ -17,58 +18,58 @@ pub(crate) fn cut(text: &[u8], mark: u8) -> Option<(&[u8], &[u8])>
     None
 }
 
-/// A number with the space after it, and what follows.
-pub fn leading_number(text: &[u8]) -> Result<(u32, &[u8]), Malformed>
+/// A number with the space after it, and what follows, in a line of a text.
+pub fn leading_number(line: u32, text: &[u8]) -> Result<(u32, &[u8]), Fault>
     ensures { MatchResult result
         (λ p. Leads text.now p.0 p.1.now)
-        (λ _. (n : ℕ) (rest : List ℕ) → Leads text.now n rest → ⊥) }
+        (λ f. (f ≡ malformed line) × ((n : ℕ) (rest : List ℕ) → Leads text.now n rest → ⊥)) }
 {
     let Some((field, rest)) = cut(text, b' ') else {
-        return Err(Malformed);
+        return Err(Malformed::on(line));
     };
     let Ok(n) = number(field) else {
-        return Err(Malformed);
+        return Err(Malformed::on(line));
     };
     Ok((n, rest))
 }
 
-/// A signed number with the space after it, and what follows.
-pub fn leading_signed(text: &[u8]) -> Result<(i32, &[u8]), Malformed>
+/// A signed number with the space after it, and what follows, in a line of a text.
+pub fn leading_signed(line: u32, text: &[u8]) -> Result<(i32, &[u8]), Fault>
     ensures { MatchResult result
         (λ p. LeadsSigned text.now p.0 p.1.now)
-        (λ _. (z : ℤ) (rest : List ℕ) → LeadsSigned text.now z rest → ⊥) }
+        (λ f. (f ≡ malformed line) × ((z : ℤ) (rest : List ℕ) → LeadsSigned text.now z rest → ⊥)) }
 {
     let Some((field, rest)) = cut(text, b' ') else {
-        return Err(Malformed);
+        return Err(Malformed::on(line));
     };
     let Ok(z) = signed_number(field) else {
-        return Err(Malformed);
+        return Err(Malformed::on(line));
     };
     Ok((z, rest))
 }
 
-/// Two numbers.
-pub fn pair(text: &[u8]) -> Result<(u32, u32), Malformed>
-    ensures { Reads (Two text.now) result }
+/// Two numbers, which end a line of a text.
+pub fn pair(line: u32, text: &[u8]) -> Result<(u32, u32), Fault>
+    ensures { ReadsOn line (Two text.now) result }
 {
-    let Ok((first, rest)) = leading_number(text) else {
-        return Err(Malformed);
+    let Ok((first, rest)) = leading_number(line, text) else {
+        return Err(Malformed::on(line));
     };
     let Ok(second) = number(rest) else {
-        return Err(Malformed);
+        return Err(Malformed::on(line));
     };
     Ok((first, second))
 }
 
-/// Three numbers.
-pub fn triple(text: &[u8]) -> Result<(u32, u32, u32), Malformed>
-    ensures { Reads (Three text.now) result }
+/// Three numbers, which end a line of a text.
+pub fn triple(line: u32, text: &[u8]) -> Result<(u32, u32, u32), Fault>
+    ensures { ReadsOn line (Three text.now) result }
 {
-    let Ok((first, rest)) = leading_number(text) else {
-        return Err(Malformed);
+    let Ok((first, rest)) = leading_number(line, text) else {
+        return Err(Malformed::on(line));
     };
-    let Ok((second, third)) = pair(rest) else {
-        return Err(Malformed);
+    let Ok((second, third)) = pair(line, rest) else {
+        return Err(Malformed::on(line));
     };
     Ok((first, second, third))
 }

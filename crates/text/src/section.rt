@@ -2,6 +2,7 @@ ghost use Rattle.std.specs.Prelude.{◌≡◌, ℕ, ◌+◌, ◌<◌, ◌≤◌,
 ghost use Rattle.text.specs.Sorts.{headings, Next, NextFault, Begins, EntriesFault, Read, Wrong};
 
 use crate::entry::{Entry, Store};
+use crate::malformed::Malformed;
 use crate::numbers::number;
 use crate::text::Text;
 use rules::{Fault, Refusal};
@@ -28,12 +29,13 @@ impl<'a> Text<'a> {
             (λ n. Next (headings X.sort) [] self.old.rest n self.new.rest × (self.new.line ≡ self.old.line + 1))
             (λ f. NextFault (headings X.sort) [] self.old.rest f.refusal × (f.line ≡ self.old.line + 1)) }
     {
-        let line = self.next_line()?;
-        let Some(rest) = X::after_name(line) else {
-            return Err(self.fault(Refusal::MalformedLine));
+        let text = self.next_line()?;
+        let line = self.number();
+        let Some(rest) = X::after_name(text) else {
+            return Err(Malformed::on(line));
         };
         let Ok(count) = number(rest) else {
-            return Err(self.fault(Refusal::MalformedLine));
+            return Err(Malformed::on(line));
         };
         let (least, most) = X::limits();
         if count < least || most < count {
@@ -68,10 +70,8 @@ impl<'a> Text<'a> {
             (λ f. NextFault X.sort (D.held into.old) self.old.rest f.refusal × (f.line ≡ self.old.line + 1)) }
         ensures others { D.emptied into.new ≡ D.emptied into.old }
     {
-        let line = self.next_line()?;
-        let Ok(entry) = X::read(line) else {
-            return Err(self.fault(Refusal::MalformedLine));
-        };
+        let text = self.next_line()?;
+        let entry = X::read(self.number(), text)?;
         match into.store(entry) {
             Ok(()) => Ok(()),
             Err(refusal) => Err(self.fault(refusal)),

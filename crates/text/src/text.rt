@@ -78,6 +78,13 @@ impl<'a> Text<'a> {
         Ok(line)
     }
 
+    // The number of the line read last, counted from 1.
+    pub(crate) fn number(&self) -> u32
+        ensures { result ≡ self.now.line }
+    {
+        self.line
+    }
+
     // A fault of the line read last.
     pub(crate) fn fault(&self, refusal: Refusal) -> Fault
         ensures line { result.line ≡ self.now.line }

@@ -26,16 +26,25 @@ mass line r (Speed q) e (form, f) = let n = apart line r _ 77 86 e f in absurd (
 mass line r (Mass q) e (form, f) = ((q.speed, q.gross), (form.0, form.1, cc))
 
 pub returns-in_default-triple : goal.returns-in_default-triple
-returns-in_default-triple c x h =
-    let p = stop c.args.line.now _ x (after_two c.args.line.now 83 32 (search rules) (search rules) (search rules)) h in
-    c.in_default-triple.ensures p.0 p.1
+returns-in_default-triple c = (
+  search rules,
+  λ x h.
+      let p = stop c.args.text.now _ x (after_two c.args.text.now 83 32 (search rules) (search rules) (search rules)) h in
+      c.in_default-triple.ensures.1 p.0 p.1,
+)
 
 pub returns-in_default-pair : goal.returns-in_default-pair
-returns-in_default-pair c x h =
-    let p = speed c.args.line.now _ x (after_two c.args.line.now 86 32 (search rules) (search rules) (search rules)) h in
-    c.in_default-pair.ensures p.0 p.1
+returns-in_default-pair c = (
+  search rules,
+  λ x h.
+      let p = speed c.args.text.now _ x (after_two c.args.text.now 86 32 (search rules) (search rules) (search rules)) h in
+      c.in_default-pair.ensures.1 p.0 p.1,
+)
 
 pub returns-in_default-pair-2 : goal.returns-in_default-pair-2
-returns-in_default-pair-2 c x h =
-    let p = mass c.args.line.now _ x (after_two c.args.line.now 77 32 (search rules) (search rules) (search rules)) h in
-    c.in_default-pair-2.ensures p.0 p.1
+returns-in_default-pair-2 c = (
+  search rules,
+  λ x h.
+      let p = mass c.args.text.now _ x (after_two c.args.text.now 77 32 (search rules) (search rules) (search rules)) h in
+      c.in_default-pair-2.ensures.1 p.0 p.1,
+)
