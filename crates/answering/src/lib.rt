@@ -2,11 +2,10 @@
 #![tactic(auto)]
 
 pub mod equipment;
-pub mod output;
+mod output;
 pub mod program;
 pub mod reckoner;
 
 pub use equipment::Equipment;
-pub use output::Output;
 pub use program::run;
 pub use reckoner::Reckoner;

@@ -41,7 +41,7 @@ impl Reckoner {
         })
     }
 
-    /// Reads a run file and answers its questions, a line each; the one line of a file with a fault tells that.
+    /// Reads a run file and answers its questions, a line each; of a file with a fault there is one line, which tells the fault.
     pub fn answer<E: Equipment>(&mut self, text: &[u8], equipment: &E)
         ensures answered { Answered (E.stock equipment.now) text.now self.new.file self.new.sheet self.new.output }
         ensures accepts { (q : Request) (b : Book) → IsRun text.now q b → (self.new.file ≡ Some q) × (self.new.sheet ≡ b) }

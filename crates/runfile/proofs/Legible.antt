@@ -10,7 +10,7 @@ use Rattle.rules.specs.declared.figures.Question.TheVariants.{Stop, Speed, Mass}
 use Rattle.rules.specs.declared.figures.SectionFigures.{SectionFigures}
 use Rattle.rules.specs.Book.{Vehicle}
 use Rattle.rules.specs.Questions.{lawful_letter}
-use Rattle.text.specs.Clear.{Clear, ClearAll}
+use Rattle.text.proofs.Clear.{Clear, ClearAll}
 use Rattle.text.specs.Fields.{flag, spaced}
 use Rattle.text.specs.Numerals.{Short, Lacks}
 use Rattle.text.proofs.Cuts.{leads_same, leads_signed_same}

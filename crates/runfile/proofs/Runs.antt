@@ -7,7 +7,7 @@ use Rattle.rules.specs.declared.figures.Question.{Question}
 use Rattle.rules.specs.declared.figures.SectionFigures.{SectionFigures}
 use Rattle.rules.specs.Book.{Book, Vehicle, book}
 use Rattle.rules.specs.Table.{lawful_table}
-use Rattle.text.specs.Clear.{OneOutcome}
+use Rattle.text.specs.Outcomes.{OneOutcome}
 use Rattle.text.specs.Files.{Entries}
 use Rattle.text.specs.Sorts.{Proper}
 use Rattle.text.proofs.Outcomes.{one_outcome}

@@ -64,7 +64,7 @@ section_sort =
       refusal = UnlawfulSection;
     }
 
--- up to 200 questions, whatever they ask
+-- up to 200 questions, whatever they ask: none is refused by reading, so their refusal is never told
 abbrev pub question_sort : Sort Question
 question_sort =
     record {

@@ -72,13 +72,9 @@ impl Store<Head> for Option<Head> {
         if self.is_some() {
             return Err(Refusal::UnlawfulBrakingDistance);
         }
-        match check_distance(head.distance) {
-            Ok(()) => {
-                *self = Some(head);
-                Ok(())
-            }
-            Err(_) => Err(Refusal::UnlawfulBrakingDistance),
-        }
+        check_distance(head.distance)?;
+        *self = Some(head);
+        Ok(())
     }
 }
 

@@ -1,12 +1,12 @@
-// Run files: reading one onto a sheet, and answering its questions line by line.
+// Run files: reading one onto a sheet, and performing calls from there on.
 #![tactic(auto)]
 
 pub mod head;
-pub mod points;
-pub mod questions;
+mod points;
+mod questions;
 pub mod run_file;
-pub mod sections;
+mod sections;
 pub mod theorems;
-pub mod vehicles;
+mod vehicles;
 
 pub use run_file::RunFile;

@@ -31,7 +31,7 @@ impl Entry for PointLine {
     }
 
     fn limits() -> (u32, u32) {
-        (1, 16)
+        (1, MOST_POINTS as u32)
     }
 
     fn read(line: u32, text: &[u8]) -> Result<PointLine, Fault> {

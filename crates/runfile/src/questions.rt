@@ -66,7 +66,7 @@ impl Entry for QuestionLine {
     }
 
     fn limits() -> (u32, u32) {
-        (0, 200)
+        (0, MOST_QUESTIONS as u32)
     }
 
     fn read(line: u32, text: &[u8]) -> Result<QuestionLine, Fault> {

@@ -103,7 +103,8 @@ impl RunFile {
     }
 
     /// Reads a run file, and performs calls in their order on its train and line, with a reply beside each. Of a file with a fault
-    /// none is performed.
+    /// none is performed. Questions bring their own kind of brake and stock; to ask with those of the file, read it first and then
+    /// call `history::perform`.
     pub fn perform<Q: Inquiry>(
         &mut self,
         sheet: &mut Sheet,

@@ -22,8 +22,8 @@ impl Model for VehicleLine {
     ghost view = { λ v. vehicle v.figures v.braked };
 }
 
-// The letter of a vehicle.
-fn letter_of(byte: u8) -> Result<char, Malformed>
+// The letter of a vehicle, L or W.
+fn vehicle_letter(byte: u8) -> Result<char, Malformed>
     ensures { Reads (λ letter. (letter ≡ byte) × (lawful_letter byte ≡ true)) result }
 {
     match char::from(byte) {
@@ -51,7 +51,7 @@ impl Entry for VehicleLine {
         let [letter, b' ', rest @ ..] = text else {
             return Err(Malformed::on(line));
         };
-        let Ok(letter) = letter_of(*letter) else {
+        let Ok(letter) = vehicle_letter(*letter) else {
             return Err(Malformed::on(line));
         };
         let Ok((mass, rest)) = leading_number(line, rest) else {
@@ -84,9 +84,7 @@ impl Store<VehicleLine> for Sheet {
     #[tactic(auto, using(crate::proofs::Brakes::rear_brake))]
     fn store(&mut self, line: VehicleLine) -> Result<(), Refusal> {
         let k = self.vehicle_count();
-        let Ok(()) = self.couple(line.figures) else {
-            return Err(Refusal::UnlawfulVehicle);
-        };
+        self.couple(line.figures)?;
         if !line.braked {
             let Ok(()) = self.cut_out(k) else {
                 unreachable!()

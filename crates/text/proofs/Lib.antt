@@ -1,3 +1,4 @@
+pub mod Clear
 pub mod Numerals
 pub mod Cuts
 pub mod Patterns

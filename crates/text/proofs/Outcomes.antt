@@ -1,11 +1,17 @@
 -- A whole text has one outcome.
-use Rattle.std.proofs.Common.{◌≡◌, ℕ, ◌+◌, ◌≤◌, List, length, sym, refl, ap, ◌∙◌, subst, inl, inr, arith}
+use Rattle.std.proofs.Common.{[], ◌≡◌, ℕ, ◌+◌, ◌≤◌, List, length, sym, refl, ap, ◌∙◌, subst, inl, inr, arith}
 use Rattle.rules.specs.declared.fault.Fault.{Fault}
 use Rattle.rules.specs.declared.refusal.Refusal.{Refusal}
 use Rattle.text.specs.Sorts.{Sort, Read, Wrong}
-use Rattle.text.specs.Files.{Plan, nothing, first, Entries, plan_text, AllGood, Accepts, Accepted, FaultIn, FileFault}
-use Rattle.text.specs.Clear.{ClearAll, OneOutcome}
+use Rattle.text.specs.Files.{Plan, nothing, first, Entries, plan_text, AllGood, Accepts, FaultIn, FileFault}
+use Rattle.text.specs.Outcomes.{OneOutcome}
+use Rattle.text.proofs.Clear.{ClearAll}
 use Rattle.text.proofs.Unique.{read_same, read_not_wrong, wrong_same}
+
+-- section by section: each has nothing wrong, and nothing follows the last
+abbrev pub Accepted : (plan : Plan) → List ℕ → Entries plan → Type 0
+Accepted nothing text _ = text ≡ []
+Accepted (first s more) text (xs, others) = (rest : List ℕ) × Read s text xs rest × Accepted more rest others
 
 fault_is : (f g : Fault) → f.line ≡ g.line → f.refusal ≡ g.refusal → f ≡ g
 fault_is f g p q =

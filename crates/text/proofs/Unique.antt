@@ -6,7 +6,7 @@ use Rattle.rules.specs.declared.refusal.Refusal.{Refusal}
 use Rattle.text.specs.Numerals.{Lacks, Cut}
 use Rattle.text.specs.Texts.{NoLine}
 use Rattle.text.specs.Sorts.{Sort, heading, headings, Next, NextFault, lines, Proper, Read, Wrong}
-use Rattle.text.specs.Clear.{Clear}
+use Rattle.text.proofs.Clear.{Clear}
 use Rattle.text.proofs.Numerals.{numeral_same}
 use Rattle.text.proofs.Cuts.{same_cut, not_lacks, decimal_lacks}
 

@@ -30,11 +30,6 @@ pub record Accepts (plan : Plan) (text : List ℕ) (entries : Entries plan) : Ty
   pub good : AllGood plan entries
   pub is : text ≡ plan_text plan entries
 
--- section by section: each has nothing wrong, and nothing follows the last
-abbrev pub Accepted : (plan : Plan) → List ℕ → Entries plan → Type 0
-Accepted nothing text _ = text ≡ []
-Accepted (first s more) text (xs, others) = (rest : List ℕ) × Read s text xs rest × Accepted more rest others
-
 -- after `line` lines comes a text that should be at its end, and is not
 abbrev pub LeftOver : ℕ → List ℕ → Fault → Type 0
 LeftOver line text f = (text ≢ []) × (f.refusal ≡ WrongCount) × (f.line ≡ line + 1)

@@ -3,4 +3,4 @@ pub mod Fields
 pub mod Texts
 pub mod Sorts
 pub mod Files
-pub mod Clear
+pub mod Outcomes

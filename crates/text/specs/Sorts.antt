@@ -30,7 +30,8 @@ heading name n = spaced (name ∷ decimal n ∷ [])
 abbrev pub NamedBefore : {X : Type 0} → Sort X → List ℕ → List ℕ → Type 0
 NamedBefore s line rest = line ≡ s.name ++ 32 ∷ rest
 
--- headings are a sort too: one says how many entries follow, and a count that is not allowed is refused
+-- headings are a sort too: one says how many entries follow, and a count that is not allowed is refused (there is no heading of
+-- headings: their name and how many there are stand for nothing)
 abbrev pub headings : {X : Type 0} → Sort X → Sort ℕ
 headings s =
     record {

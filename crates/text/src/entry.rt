@@ -4,7 +4,7 @@ ghost use Rattle.text.specs.Sorts.{Sort, Says, NamedBefore, Stored};
 
 use rules::{Fault, Refusal};
 
-/// A sort of line of a section, as what one such line says.
+/// What one line of a section says; one type for each sort of line.
 pub trait Entry: Sized {
     // how lines of this sort are written, and which are lawful
     ghost sort: { Sort Self };

@@ -12,4 +12,4 @@ pub use entry::{Entry, Store};
 pub use fields::{leading_number, leading_signed, pair, switch, triple};
 pub use malformed::Malformed;
 pub use numbers::{number, signed_number};
-pub use text::Text;
+pub use text::{MOST_BYTES, Text};

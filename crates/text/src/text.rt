@@ -7,8 +7,8 @@ use crate::fields::cut;
 use rules::{Fault, Refusal};
 use std::marker::Model;
 
-// How many bytes a text may have.
-const MOST_BYTES: usize = 65_536;
+/// How many bytes a text may have.
+pub const MOST_BYTES: usize = 65_536;
 
 /// A text of at most 65,536 bytes that is read line by line: what is left of it, and how many of its lines were read.
 #[derive(Drop)]
