@@ -1,5 +1,6 @@
 -- The lines that answer a run file.
 use Rattle.std.specs.Prelude.{◌≡◌, ℕ, suc, ◌≤◌, List, length, [], ◌∷◌, ◌++◌, map, Some, None, Option}
+use Rattle.std.specs.Io.KnownBytes.{Appends}
 use Rattle.laws.specs.Kinds.{kind_by_letter}
 use Rattle.rules.specs.declared.fault.Fault.{Fault}
 use Rattle.rules.specs.declared.figures.PointFigures.{PointFigures}
@@ -38,3 +39,8 @@ pub record AnsweredBy (s : Stock) (q : Request) (b : Book) (out : List ℕ) : Ty
 abbrev pub Answered : (List PointFigures → Stock) → List ℕ → Option Request → Book → List ℕ → Type 0
 Answered equip text (Some q) b out = IsRun text q b × AnsweredBy (equip q.points) q b out
 Answered equip text None b out = (f : Fault) × IsFault text f × (b ≡ new_book) × (out ≡ fault_line f)
+
+-- the lines that answer a text are written behind what was written before, where that is known
+abbrev pub AnsweredInto : (List PointFigures → Stock) → Option (List ℕ) → Option (List ℕ) → List ℕ → Type 0
+AnsweredInto equip before after text =
+    (file : Option Request) × (b : Book) × (out : List ℕ) × Answered equip text file b out × Appends before after out

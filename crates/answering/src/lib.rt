@@ -7,5 +7,5 @@ pub mod program;
 pub mod reckoner;
 
 pub use equipment::Equipment;
-pub use program::run;
+pub use program::{answer_input, run};
 pub use reckoner::Reckoner;

@@ -1,20 +1,54 @@
+ghost use Rattle.std.specs.Prelude.{◌≡◌, ℕ, List, take, IfOk, IfSome, OnOk};
+ghost use Rattle.std.specs.Io.KnownBytes.{Appends};
+ghost use Rattle.answering.specs.Answers.{AnsweredInto};
+
 use crate::equipment::Equipment;
 use crate::reckoner::Reckoner;
+use std::alloc::Global;
 use std::io::{self, Read, Write};
 use text::MOST_BYTES;
 
-/// A whole program that answers a run file: standard input, `Reckoner::answer`, standard output. Of the input it reads one byte more
-/// than the longest run file has, by which a longer one is told.
+// Of an input one byte more is read than the longest run file has, by which a longer one is told.
+const MOST_READ: usize = MOST_BYTES + 1;
+
+/// A whole program that answers a run file: standard input, `Reckoner::answer`, standard output.
 pub fn run<E: Equipment>(rt: &HostRuntime, equipment: &E) -> io::Result<()> {
-    let most = MOST_BYTES + 1;
-    let mut text = Vec::with_capacity(rt.alloc(), most)?;
-    rt.stdin().take(most as u64).read_to_end(&mut text)?;
-    answer(rt, equipment, &text)
+    answer_input(rt.alloc(), rt.stdin(), &mut io::writer(rt), equipment)
 }
 
-// Answers a text on standard output.
-fn answer<E: Equipment>(rt: &HostRuntime, equipment: &E, text: &[u8]) -> io::Result<()> {
-    let mut reckoner = Reckoner::new(rt.alloc())?;
+/// Answers the run file that is the whole of an input, however long that is, and writes the lines to an output. (Where an input or
+/// an output does not tell its bytes, as those of a process, nothing is said of them.)
+pub fn answer_input<R: Read + Drop, W: Write, E: Equipment>(
+    heap: Global,
+    input: R,
+    output: &mut W,
+    equipment: &E,
+) -> io::Result<()>
+    ensures { OnOk result (IfSome (R.remaining input) (AnsweredInto (E.stock equipment.now) (W.contents output.old) (W.contents output.new))) }
+{
+    let text = read_text(heap, input)?;
+    answer_text(heap, &text, output, equipment)
+}
+
+// The bytes of an input, as far as a run file can go and one more.
+fn read_text<R: Read + Drop>(heap: Global, input: R) -> io::Result<Vec<u8>>
+    ensures { IfOk result (λ v. IfSome (R.remaining input) (λ text. v.items ≡ take 65537 text)) }
+{
+    let mut text = Vec::with_capacity(heap, MOST_READ)?;
+    input.take(MOST_READ as u64).read_to_end(&mut text)?;
+    Ok(text)
+}
+
+// Answers a text, and writes the lines to an output.
+fn answer_text<W: Write, E: Equipment>(
+    heap: Global,
+    text: &[u8],
+    output: &mut W,
+    equipment: &E,
+) -> io::Result<()>
+    ensures { OnOk result (AnsweredInto (E.stock equipment.now) (W.contents output.old) (W.contents output.new) text.now) }
+{
+    let mut reckoner = Reckoner::new(heap)?;
     reckoner.answer(text, equipment);
-    io::writer(rt).write_all(reckoner.output())
+    output.write_all(reckoner.output())
 }
