@@ -5,6 +5,7 @@ ghost use Rattle.rules.specs.Promises.{ExactSumsAreFiner, StopsAreClose, StopsAr
 ghost use Rattle.rules.specs.Refusals.{QuestionsDecideOnce};
 ghost use Rattle.rules.specs.Stop.{EdgesAreCounted};
 ghost use Rattle.rules.specs.Table.{TablesGoThroughPoints};
+ghost use Rattle.rules.specs.Worked.{WorkedExamples};
 
 /// The speed edges rise, and `edges_below` counts those below a speed.
 pub fn edges_are_counted()
@@ -49,5 +50,6 @@ pub fn promises_apply()
 
 /// Laws, layers, grades and stops have their known values.
 pub fn figures_are_checked()
-    ensures { CheckedFigures }
+    ensures figures { CheckedFigures }
+    ensures examples { WorkedExamples }
 {}
