@@ -24,9 +24,9 @@ use Rattle.answering.specs.Answers.{calls_of, numbered}
 abbrev pub ended : List (List ℕ) → List ℕ
 ended = flat_map (λ line. line ++ 10 ∷ [])
 
--- a run file of 14 lines
-abbrev pub example_text : List ℕ
-example_text =
+-- a run file of 15 lines
+abbrev pub worked_text : List ℕ
+worked_text =
     ended
     (codes "RUN 1"
     ∷ codes "F 1000"
@@ -46,17 +46,17 @@ example_text =
     ∷ [])
 
 -- what it says: its kind of brake, its points and its questions, and the book of its train and line
-abbrev pub example_request : Request
-example_request =
+abbrev pub worked_request : Request
+worked_request =
     request F example_points
     (Stop (full_braking 0 100) ∷ Mass (record { speed = 200; gross = 600 }) ∷ Stop (full_braking 2500 100) ∷ [])
 
-abbrev pub example_book : Book
-example_book = book example_train (straight_section 1500 (pos 0) ∷ straight_section 1500 (pos 80) ∷ []) 1000
+abbrev pub worked_book : Book
+worked_book = book example_train (straight_section 1500 (pos 0) ∷ straight_section 1500 (pos 80) ∷ []) 1000
 
 -- what its book replies, where a locomotive pulls nine tenths of the table
-abbrev pub example_replies : List Reply
-example_replies = stops 24917 74250 1 ∷ hauls 26000 ∷ refused 9 ∷ []
+abbrev pub worked_replies : List Reply
+worked_replies = stops 24917 74250 1 ∷ hauls 26000 ∷ refused 9 ∷ []
 
 abbrev pub fault : ℕ → Refusal → Fault
 fault line why = record { line = line; refusal = why }
@@ -78,9 +78,9 @@ pub record WorkedRunFiles : Type 0 where
   pub line_of_speed : question_line (Speed (record { place = 0; factor = 7 })) ≡ codes "V 0 7"
   pub line_of_mass : question_line (Mass (record { speed = 200; gross = 600 })) ≡ codes "M 200 600"
   -- the example is a run file; its book replies to its questions, and the replies are printed
-  pub is_run : IsRun example_text example_request example_book
-  pub replied : replies example_book (calls_of (example_stock example_pull) example_request) ≡ example_replies
-  pub printed : numbered 1 example_replies ≡ ended (codes "1 OK 24917 74250 1" ∷ codes "2 OK 26000" ∷ codes "3 NO 9" ∷ [])
+  pub is_run : IsRun worked_text worked_request worked_book
+  pub replied : replies worked_book (calls_of (example_stock example_pull) worked_request) ≡ worked_replies
+  pub printed : numbered 1 worked_replies ≡ ended (codes "1 OK 24917 74250 1" ∷ codes "2 OK 26000" ∷ codes "3 NO 9" ∷ [])
   pub speed_printed : reply_line 4 (runs 900) ≡ ended (codes "4 OK 900" ∷ [])
   -- a text of no bytes lacks its line 1; a count over its limit; a braking distance that no sheet may have
   pub empty : IsFault [] (fault 1 WrongCount)

@@ -8,7 +8,7 @@ use Rattle.rules.specs.Faults.{fault_text}
 use Rattle.rules.proofs.Tables.{none_some}
 use Rattle.text.specs.Numerals.{Lacks}
 use Rattle.runfile.specs.Run.{head, IsRun, IsFault}
-use Rattle.answering.specs.Worked.{ended, example_text, example_request, example_book}
+use Rattle.answering.specs.Worked.{ended, worked_text, worked_request, worked_book}
 use Rattle.answering.proofs.theorems.run_files_are_worked.Goals as goal
 
 -- a line of five bytes without a line feed
@@ -16,7 +16,7 @@ five_plain : (a b c d e : ℕ) → (a ≡ 10 → ⊥) → (b ≡ 10 → ⊥) →
 five_plain a b c d e p q r s t = (p, (q, (r, (s, (t, tt)))))
 
 -- the example is made of proper lines
-is_run : IsRun example_text example_request example_book
+is_run : IsRun worked_text worked_request worked_book
 unfolding digits
 is_run =
     record {
