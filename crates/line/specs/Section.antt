@@ -10,7 +10,7 @@ use Rattle.rules.specs.Questions.{lawful_section}
 use Rattle.line.specs.Curve.{CurveFigures, curve_of}
 use Rattle.line.specs.declared.section.Section.TheInside.{Inside}
 
--- the figures that it was given by: no curve is 0 over 0, and a stop is marked by 1
+-- the figures that it was given by: where there is no curve its length and its radius are 0, and a stop is marked by 1
 abbrev pub figures_of : Inside → SectionFigures
 figures_of s = record {
   metres = s.metres;

@@ -105,7 +105,7 @@ mass_per_wagon vs = per_wagon (trailing_mass vs) (wagons vs)
 abbrev pub line_length : List SectionFigures → ℕ
 line_length = sum_of (λ s. s.metres)
 
--- of two trains: no vehicle came or went, and each but vehicle k is as it was
+-- of two trains: no vehicle came or went, and each but vehicle k is as it was (of k itself nothing is said)
 pub record OnlyBrakeOf (k : ℕ) (old new : List Vehicle) : Type 0 where
   pub count : length new ≡ length old
   pub others : (j : ℕ) (d : Vehicle) → (j ≢ k) → slice_index_or new j d ≡ slice_index_or old j d

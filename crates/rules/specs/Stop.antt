@@ -22,7 +22,7 @@ pub record Approach : Type 0 where
   pub reach : ℕ
   pub lowest : ℤ
 
--- the window of a stop from a place, in metres from the start of the line: the sections on which the train has to stand
+-- the window of a stop from a place, in metres from the start of the line: the sections on one of which the train has to come to a stand
 abbrev pub stop_window : Book → ℕ → List SectionFigures
 stop_window b place = window place (place + b.distance) b.sections
 
@@ -50,7 +50,7 @@ train_mass a = a.hauling + a.trailing
 abbrev pub edge : ℕ → ℕ
 edge k = min (100 * k) (250 + 50 * k)
 
--- how many edges lie below v
+-- how many edges lie below v (a difference of numbers is never under 0)
 abbrev pub edges_below : ℕ → ℕ
 edges_below v = max ((v + 99) / 100) ((v - 250 + 49) / 50)
 

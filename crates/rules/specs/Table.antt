@@ -50,7 +50,7 @@ abbrev pub pull_after : PointFigures → List PointFigures → ℕ → Ratio
 pull_after p [] v = ratio (cond (nat_le v p.speed) p.value 0) 1
 pull_after p (n ∷ rest) v = cond (nat_lt v n.speed) (between_points p n v) (pull_after n rest v)
 
--- from speed 0 on
+-- by a table, from speed 0 on
 abbrev pub table_pull : List PointFigures → ℕ → Ratio
 table_pull [] v = ratio 0 1
 table_pull (p ∷ rest) v = pull_after p rest v

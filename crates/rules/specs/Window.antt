@@ -20,7 +20,7 @@ abbrev pub those : {X : Type 0} → (X → Bool) → List X → List X
 those p [] = []
 those p (x ∷ xs) = cond (p x) (x ∷ those p xs) (those p xs)
 
--- of a line that begins at `start`, and of one that begins at 0
+-- the sections that do so, of a line that begins at `start`, and of one that begins at 0
 abbrev pub window_from : ℕ → ℕ → ℕ → List SectionFigures → List SectionFigures
 window_from start from to fs = map (λ x. x.section) (those (shares_point from to) (located start fs))
 
