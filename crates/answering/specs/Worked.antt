@@ -1,10 +1,9 @@
 -- A run file worked out by hand, from its lines to the lines that answer it, and three that have a fault.
-use Rattle.std.specs.Prelude.{◌≡◌, ℕ, true, List, [], ◌∷◌, ◌++◌, pos, negsuc, codes, decimal}
+use Rattle.std.specs.Prelude.{◌≡◌, ℕ, true, List, [], ◌∷◌, ◌++◌, pos, negsuc, codes}
 use Rattle.std.specs.List.{flat_map}
 use Rattle.laws.specs.declared.kind.KindLetter.TheVariants.{F}
 use Rattle.rules.specs.declared.fault.Fault.{Fault}
 use Rattle.rules.specs.declared.figures.Question.TheVariants.{Stop, Speed, Mass}
-use Rattle.rules.specs.declared.figures.SectionFigures.{SectionFigures}
 use Rattle.rules.specs.declared.refusal.Refusal.{Refusal}
 use Rattle.rules.specs.declared.refusal.Refusal.TheVariants.{UnlawfulBrakingDistance, WrongCount, MalformedLine}
 use Rattle.rules.specs.Book.{Book, book, vehicle}

@@ -1,25 +1,24 @@
 -- Worked examples: small cases of the definitions, each worked out by hand from the rules.
-use Rattle.std.specs.Prelude.{◌≡◌, ℕ, true, false, List, [], ◌∷◌, ℤ, pos, negsuc, Some, None, codes, nat_le}
-use Rattle.rules.specs.declared.fault.Fault.{Fault}
+use Rattle.std.specs.Prelude.{◌≡◌, ℕ, true, false, List, [], ◌∷◌, pos, negsuc, Some, None, codes, nat_le}
 use Rattle.rules.specs.declared.figures.PointFigures.{PointFigures}
 use Rattle.rules.specs.declared.figures.Question.TheVariants.{Stop}
 use Rattle.rules.specs.declared.figures.SectionFigures.{SectionFigures}
 use Rattle.rules.specs.declared.figures.VehicleFigures.{VehicleFigures}
 use Rattle.rules.specs.declared.refusal.Refusal.TheVariants.{UnlawfulLaw, UnlawfulVehicle}
-use Rattle.rules.specs.Ratio.{ratio, rounded_down, rounded_up}
-use Rattle.rules.specs.Fraction.{fraction, whole, natural_of, fall_of, lesser, ◌+F◌, ◌÷F◌, total, times, over, floor, ceiling}
+use Rattle.rules.specs.Ratio.{ratio}
+use Rattle.rules.specs.Fraction.{fraction, natural_of, fall_of, lesser, ◌+F◌, ◌÷F◌, times, over, floor, ceiling}
 use Rattle.rules.specs.Law.{Falling}
 use Rattle.rules.specs.Formulas.{composite, adhesion, wagon_drag, quadratic_drag, df4}
 use Rattle.rules.specs.Table.{first_break, table_pull}
 use Rattle.rules.specs.Layers.{percent_down, percent_up, blend_down, blend_up, smaller_whole}
 use Rattle.rules.specs.Kind.{freight, passenger}
-use Rattle.rules.specs.Book.{Vehicle, vehicle, Book, book, new_book, cut_out, with_brake, without_rear, locomotives, wagons, hauling_mass, trailing_mass, brake_pressure, per_wagon, line_length}
+use Rattle.rules.specs.Book.{vehicle, Book, book, new_book, cut_out, with_brake, without_rear, locomotives, wagons, hauling_mass, trailing_mass, brake_pressure, per_wagon, line_length}
 use Rattle.rules.specs.Grade.{low_grade, high_grade, lowest_low_grade}
 use Rattle.rules.specs.Window.{window}
 use Rattle.rules.specs.Stop.{edge, edges_below, step, steps_from, brake_force, train_drag, holding_force, braking_run, delay_run}
 use Rattle.rules.specs.Finer.{Reckoning, finer_distance}
 use Rattle.rules.specs.Questions.{asked_to_stop}
-use Rattle.rules.specs.Refusals.{◌otherwise◌, first_no, Reply, passed, stops, refused, refusal_text}
+use Rattle.rules.specs.Refusals.{◌otherwise◌, first_no, passed, stops, refused, refusal_text}
 use Rattle.rules.specs.Faults.{fault_text}
 use Rattle.rules.specs.Speed.{last_before_failure}
 use Rattle.rules.specs.Mass.{Engines, moving, starting, whole_ratio, read_cautiously, own_resistance, counted_pull, holds_cautiously}

@@ -1,5 +1,5 @@
 -- Each example is what its definition computes; of a fault the lines before it and the line itself are told.
-use Rattle.std.proofs.Common.{◌≡◌, ℕ, List, [], ◌∷◌, codes, inl, inr, refl, sym, arith, lit≤}
+use Rattle.std.proofs.Common.{◌≡◌, ℕ, [], ◌∷◌, codes, inl, inr, refl, sym, arith, lit≤}
 use Rattle.std.specs.Fmt.{digits}
 use Rattle.laws.specs.declared.kind.KindLetter.TheVariants.{F}
 use Rattle.rules.specs.Stop.{brake_force, train_drag, holding_force, braking_run, delay_run}
@@ -7,7 +7,7 @@ use Rattle.rules.specs.Mass.{holds_cautiously, greatest_mass}
 use Rattle.rules.specs.Faults.{fault_text}
 use Rattle.rules.proofs.Tables.{none_some}
 use Rattle.text.specs.Numerals.{Lacks}
-use Rattle.runfile.specs.Run.{head, IsRun, IsFault}
+use Rattle.runfile.specs.Run.{head, IsRun}
 use Rattle.answering.specs.Worked.{ended, worked_text, worked_request, worked_book}
 use Rattle.answering.proofs.theorems.run_files_are_worked.Goals as goal
 
