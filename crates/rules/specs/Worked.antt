@@ -18,8 +18,8 @@ use Rattle.rules.specs.Window.{window}
 use Rattle.rules.specs.Stop.{edge, edges_below, step, steps_from, brake_force, train_drag, holding_force, braking_run, delay_run}
 use Rattle.rules.specs.Finer.{Reckoning, finer_distance}
 use Rattle.rules.specs.Questions.{asked_to_stop}
-use Rattle.rules.specs.Refusals.{◌otherwise◌, first_no, passed, stops, refused, refusal_text}
-use Rattle.rules.specs.Faults.{fault_text}
+use Rattle.rules.specs.Refusals.{◌otherwise◌, first_no, passed, stops, refused}
+use Rattle.rules.specs.Reasons.{refusal_text, fault_text}
 use Rattle.rules.specs.Speed.{last_before_failure}
 use Rattle.rules.specs.Mass.{Engines, moving, starting, whole_ratio, read_cautiously, own_resistance, counted_pull, holds_cautiously}
 use Rattle.rules.specs.History.{Event, couple, cut_out_brake, append, lift, set_distance, ask, inquiry, replies, after}
@@ -186,5 +186,5 @@ pub record WorkedExamples : Type 0 where
   pub vehicle_printed : vehicle_text locomotive ≡ codes "L 1000 400"
   pub section_printed : section_text fall ≡ codes "600 -100 0 0 0"
   pub stop_printed : stop_text (record { distance = 24917; least = 74250; steps = 1 }) ≡ codes "24917 mm, least force 74250, steps 1"
-  pub refusal_printed : refusal_text UnlawfulLaw ≡ codes "refused 14"
-  pub fault_printed : fault_text (record { line = 7; refusal = UnlawfulVehicle }) ≡ codes "FAULT SHEET 7 1"
+  pub refusal_printed : refusal_text UnlawfulLaw ≡ codes "refused 14: a figure of a law, a layer or a pull table is out of range or order"
+  pub fault_printed : fault_text (record { line = 7; refusal = UnlawfulVehicle }) ≡ codes "line 7 of the run file: refused 1: the letter, mass or pressure of a vehicle is out of range"

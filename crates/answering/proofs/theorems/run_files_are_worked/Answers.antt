@@ -4,9 +4,9 @@ use Rattle.std.specs.Fmt.{digits}
 use Rattle.laws.specs.declared.kind.KindLetter.TheVariants.{F}
 use Rattle.rules.specs.Stop.{brake_force, train_drag, holding_force, braking_run, delay_run}
 use Rattle.rules.specs.Mass.{holds_cautiously, greatest_mass}
-use Rattle.rules.specs.Faults.{fault_text}
 use Rattle.rules.proofs.Tables.{none_some}
 use Rattle.text.specs.Numerals.{Lacks}
+use Rattle.printing.specs.Lines.{fault_told}
 use Rattle.runfile.specs.Run.{head, IsRun}
 use Rattle.answering.specs.Worked.{ended, worked_text, worked_request, worked_book}
 use Rattle.answering.proofs.theorems.run_files_are_worked.Goals as goal
@@ -47,7 +47,7 @@ is_run =
     }
 
 pub returns : goal.returns
-unfolding brake_force train_drag holding_force braking_run delay_run holds_cautiously greatest_mass fault_text digits
+unfolding brake_force train_drag holding_force braking_run delay_run holds_cautiously greatest_mass fault_told digits
 returns c =
     record {
       number = (lit≤ tt, refl);

@@ -5,7 +5,7 @@ use Rattle.std.specs.Fmt.{digits}
 use Rattle.rules.specs.Stop.{brake_force, train_drag, holding_force, braking_run, delay_run}
 use Rattle.rules.specs.Mass.{holds_cautiously, greatest_mass}
 use Rattle.rules.specs.Speed.{permitted_speed, last_before_failure}
-use Rattle.rules.specs.Faults.{fault_text}
+use Rattle.rules.specs.Reasons.{reason, refusal_text, fault_text}
 use Rattle.rules.proofs.theorems.figures_are_checked.Goals as goal
 
 pub returns-clause-figures : goal.returns-clause-figures
@@ -38,7 +38,7 @@ returns-clause-figures c =
     }
 
 pub returns-clause-examples : goal.returns-clause-examples
-unfolding brake_force train_drag holding_force braking_run delay_run holds_cautiously last_before_failure fault_text digits encode_utf8
+unfolding brake_force train_drag holding_force braking_run delay_run holds_cautiously last_before_failure reason refusal_text fault_text digits encode_utf8
 returns-clause-examples c =
     record {
       seven_halves = (refl, refl);
