@@ -1,10 +1,10 @@
 use haulage::mass;
 use history::Reply;
-use laws::{Freight, NoPull};
+use laws::{Freight, NoPull, diesel};
 use layers::Scale;
 use printing::print_reply;
 use reckoning::stop;
-use report::{Outcome, diesel, example_pull, example_sheet, tell, tell_stop};
+use report::{Outcome, example_pull, example_sheet, tell, tell_stop};
 use rules::{MassQuestion, SectionFigures, StopQuestion, VehicleFigures};
 use runfile::RunFile;
 use sheet::Sheet;

@@ -1,6 +1,6 @@
 ghost use Rattle.rules.specs.Mass.{moving, starting, balanced};
 ghost use Rattle.haulage.specs.Limits.{IsLimit, moves};
-ghost use Rattle.std.specs.Prelude.{◌≡◌};
+ghost use Rattle.std.specs.Prelude.{◌≡◌, ◌+◌, ◌*◌, ◌≤◌};
 
 use laws::{Running, StockLaws};
 use train::Totals;
@@ -54,18 +54,25 @@ impl Hauling {
     pub(crate) fn limit(self, train: Totals, rise: Milli) -> u32
         ensures { IsLimit (balanced (engines_of train) self.coupler (readings_on self rise)) result }
     {
-        let grade = u64::from(rise.count()) + u64::from(self.added.count());
-        let own = u64::from(train.hauling) * (u64::from(self.pulling.count()) + grade);
-        let pull = 10_000 * u64::from(train.locomotives) * u64::from(self.pull.count());
+        let own = self.resistance(self.pulling, rise, train.hauling);
+        let pull = u64::from(train.locomotives) * self.pull.ten_thousandths();
         let Some(spare) = pull.checked_sub(own) else {
             return 0;
         };
-        let coupler = 10_000 * u64::from(self.coupler.count());
-        moved_by(spare.min(coupler), u64::from(self.wagon.count()) + grade)
+        let coupler = self.coupler.ten_thousandths();
+        moved_by(spare.min(coupler), self.resistance(self.wagon, rise, 1))
+    }
+
+    // What resists the motion of a mass in tenths of a tonne, by its drag, on a rise: in ten-thousandths of kgf.
+    fn resistance(self, drag: Milli, rise: Milli, mass: u32) -> u64
+        requires { mass ≤ 240000 }
+        ensures { result ≡ mass * (drag + (rise + self.added)) }
+    {
+        drag.on_mass(mass) + rise.on_mass(mass) + self.added.on_mass(mass)
     }
 }
 
-// How many tenths of a tonne a force moves, each of which resists by so much.
+// How many tenths of a tonne a force moves, each of which resists by so much; both in ten-thousandths of kgf.
 #[tactic(auto, using(crate::proofs::Limits::moved))]
 fn moved_by(force: u64, resistance: u64) -> u32
     ensures { IsLimit (moves force resistance) result }
