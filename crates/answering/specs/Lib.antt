@@ -1,2 +1,3 @@
 pub mod Answers
 pub mod Output
+pub mod Worked

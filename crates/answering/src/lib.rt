@@ -5,6 +5,7 @@ pub mod equipment;
 mod output;
 pub mod program;
 pub mod reckoner;
+pub mod theorems;
 
 pub use equipment::Equipment;
 pub use program::{answer_input, run};

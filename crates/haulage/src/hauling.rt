@@ -51,22 +51,30 @@ impl Hauling {
     }
 
     // The greatest mass of wagons, in tenths of a tonne, that the locomotives of a train haul so on a rise.
-    pub(crate) fn limit(self, train: Totals, rise: Milli) -> u32
-        ensures { IsLimit (balanced (engines_of train) self.coupler (readings_on self rise)) result }
+    pub(crate) fn limit(&self, train: Totals, rise: Milli) -> u32
+        ensures { IsLimit (balanced (engines_of train) self.now.coupler (readings_on self.now rise)) result }
     {
         let own = self.resistance(self.pulling, rise, train.hauling);
-        let pull = u64::from(train.locomotives) * self.pull.ten_thousandths();
-        let Some(spare) = pull.checked_sub(own) else {
+        let Some(spare) = self.pull_of(train.locomotives).checked_sub(own) else {
             return 0;
         };
         let coupler = self.coupler.ten_thousandths();
         moved_by(spare.min(coupler), self.resistance(self.wagon, rise, 1))
     }
 
+    // The pull of so many locomotives together, in ten-thousandths of kgf.
+    #[tactic(auto, using(crate::proofs::Limits::pulled))]
+    fn pull_of(&self, locomotives: u32) -> u64
+        requires { locomotives ≤ 120 }
+        ensures { result ≡ 10000 * locomotives * self.now.pull }
+    {
+        u64::from(locomotives) * self.pull.ten_thousandths()
+    }
+
     // What resists the motion of a mass in tenths of a tonne, by its drag, on a rise: in ten-thousandths of kgf.
-    fn resistance(self, drag: Milli, rise: Milli, mass: u32) -> u64
+    fn resistance(&self, drag: Milli, rise: Milli, mass: u32) -> u64
         requires { mass ≤ 240000 }
-        ensures { result ≡ mass * (drag + (rise + self.added)) }
+        ensures { result ≡ mass * (drag + (rise + self.now.added)) }
     {
         drag.on_mass(mass) + rise.on_mass(mass) + self.added.on_mass(mass)
     }

@@ -26,3 +26,5 @@ pub mod Promised
 pub mod Speeds
 pub mod Examples
 pub mod Tables
+pub mod Leasts
+pub mod Rounded

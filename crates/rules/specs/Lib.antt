@@ -25,3 +25,4 @@ pub mod Printed
 pub mod Given
 pub mod Faults
 pub mod Reasons
+pub mod Worked
