@@ -5,7 +5,9 @@ pub mod equipment;
 mod output;
 pub mod program;
 pub mod reckoner;
+pub mod unanswered;
 
 pub use equipment::Equipment;
 pub use program::{answer_input, run};
 pub use reckoner::Reckoner;
+pub use unanswered::Unanswered;
