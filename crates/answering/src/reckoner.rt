@@ -110,7 +110,7 @@ impl Reckoner {
         }
         match self.file.read(&mut self.sheet, text) {
             Ok(()) => self.answer_nth(number, equipment, out),
-            Err(fault) => Err(Unanswered::Faulty(fault)),
+            Err(fault) => Err(Unanswered::from(fault)),
         }
     }
 

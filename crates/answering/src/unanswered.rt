@@ -1,3 +1,6 @@
+ghost use Rattle.std.specs.Prelude.{◌≡◌};
+ghost use Rattle.answering.specs.declared.unanswered.Unanswered.TheVariants.{Faulty};
+
 use rules::{Fault, Refusal};
 
 /// Why a question that is asked alone has no line.
@@ -9,4 +12,12 @@ pub enum Unanswered {
     NotAsked,
     /// The text is no run file.
     Faulty(Fault),
+}
+
+impl From<Fault> for Unanswered {
+    ghost from_gives = { λ fault unanswered. unanswered ≡ Faulty fault };
+
+    fn from(fault: Fault) -> Unanswered {
+        Unanswered::Faulty(fault)
+    }
 }

@@ -1,4 +1,4 @@
-use Rattle.std.proofs.Common.{◌≡◌, ℕ, Err, ap, arith}
+use Rattle.std.proofs.Common.{◌≡◌, ℕ, Err, ap, ◌∙◌, arith}
 use Rattle.answering.specs.declared.unanswered.Unanswered.TheVariants.{Faulty}
 use Rattle.answering.proofs.reckoner.Reckoner.answer_alone.Goals as goal
 
@@ -12,4 +12,4 @@ pub returns-in-Err-clause-refuses : goal.returns-in-Err-clause-refuses
 returns-in-Err-clause-refuses g c f is long =
     let told = c.in-Err.ensures.refuses f is in
     let same : c.in-Err.fault ≡ f = cc in
-    ap (λ t. Err (Faulty t)) same
+    ap (λ t. Err t) (c.from.ensures ∙ ap Faulty same)
