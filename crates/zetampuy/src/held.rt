@@ -2,7 +2,7 @@ ghost use Rattle.std.specs.Prelude.{◌≡◌, IsSome, None, Some, Option};
 ghost use Rattle.answering.specs.contracts.reckoner.Reckoner.{the_row};
 ghost use Rattle.zetampuy.specs.Held.{held_owns, held_coded};
 
-use crate::parts::Parts;
+use crate::unboxed::Unboxed;
 use answering::Reckoner;
 use std::alloc::Global;
 use std::marker::Model;
@@ -32,7 +32,7 @@ impl Held {
     pub(crate) fn of(reckoner: Box<Reckoner>) -> Held
         ensures { result.reckoner ≡ Some reckoner.value }
     {
-        Held::of_parts(Parts::of(reckoner))
+        Held::of_unboxed(Unboxed::of(reckoner))
     }
 
     // The box again.
@@ -40,22 +40,22 @@ impl Held {
         requires { IsSome self.reckoner }
         ensures { self.reckoner ≡ Some result.value }
     {
-        self.into_parts(heap).into_box()
+        self.into_unboxed(heap).into_box()
     }
 
-    fn of_parts(parts: Parts<Reckoner, Global>) -> Held
-        ensures { result.reckoner ≡ Some parts.value }
+    fn of_unboxed(unboxed: Unboxed<Reckoner, Global>) -> Held
+        ensures { result.reckoner ≡ Some unboxed.value }
     {
-        let Parts { ptr, alloc: _ } = parts;
+        let Unboxed { ptr, alloc: _ } = unboxed;
         Held { at: ptr as *mut u8 }
     }
 
-    fn into_parts(self, heap: Global) -> Parts<Reckoner, Global>
+    fn into_unboxed(self, heap: Global) -> Unboxed<Reckoner, Global>
         requires { IsSome self.reckoner }
         ensures { self.reckoner ≡ Some result.value }
     {
         let Held { at } = self;
-        Parts {
+        Unboxed {
             ptr: at as *mut Reckoner,
             alloc: heap,
         }

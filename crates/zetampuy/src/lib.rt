@@ -14,7 +14,7 @@ ghost use Rattle.zetampuy.specs.Codes.{nine_tenths, no_reckoner, refusal_code, a
 mod codes;
 pub mod handle;
 pub mod held;
-mod parts;
+mod unboxed;
 
 use answering::Reckoner;
 use codes::{NO_RECKONER, of_answer, of_count, of_fault};
@@ -116,4 +116,30 @@ pub extern "C" fn zetampuy_fault(
     let told = reckoner.put_fault(text, out);
     *handle = Handle::of(reckoner);
     of_fault(told)
+}
+
+#[cfg(test)]
+mod tests {
+    use super::*;
+
+    const RUN: &[u8] =
+        b"RUN 1\nF 1000\nPUL 2\n0 40000\n400 20000\nVEH 2\nL 1000 400 1\nW 600 200 1\nSEC 2\n1500 0 0 0 0\n1500 80 0 0 0\nASK 3\nS 0 100 10\nM 200 600\nS 2500 100 10\n";
+
+    const FAULT: &[u8] = b"RUN 1\nF 399\n";
+
+    #[test]
+    fn calls_are_answered(rt: HostRuntime) {
+        let heap = rt.alloc();
+        let mut handle = Handle::none();
+        assert!(rt; zetampuy_questions(heap, &mut handle, RUN) == NO_RECKONER);
+        assert!(rt; zetampuy_new(heap, &mut handle));
+        assert!(rt; zetampuy_questions(heap, &mut handle, RUN) == 3);
+        let mut out = [0; 64];
+        assert!(rt; zetampuy_answer(heap, &mut handle, RUN, 2, &mut out) == 11);
+        assert!(rt; out.starts_with(b"2 OK 26000\n"));
+        assert!(rt; zetampuy_fault(heap, &mut handle, FAULT, &mut out) == 16);
+        assert!(rt; out.starts_with(b"FAULT SHEET 2 6\n"));
+        zetampuy_free(heap, &mut handle);
+        assert!(rt; zetampuy_questions(heap, &mut handle, RUN) == NO_RECKONER);
+    }
 }

@@ -1,4 +1,4 @@
--- `of` takes the box apart, and the parts own what it owned.
+-- `of` takes the box apart, and its pointer owns what it owned.
 use mathlib.Core.Path.{◌≡◌, refl, sym, subst, ap, ◌∙◌}
 use mathlib.Core.List.{List, [], ◌∷◌, ◌++◌}
 use seplogic.Ra.Ura.{Ura}
@@ -37,14 +37,14 @@ use Rattle.core.proofs.alloc.Calls.{token, handle_tells, Goes-blank}
 use Rattle.std_alloc.specs.Box.Ownership.{box_owns}
 use Rattle.std_alloc.proofs.BoxSteps.Form.{Bx, D, τ, R, P, B, word, box_typed}
 use Rattle.std_alloc.proofs.BoxSteps.Steps.{box_out, box_in}
-use Rattle.zetampuy.specs.contracts.parts.Parts as parts
+use Rattle.zetampuy.specs.contracts.unboxed.Unboxed as unboxed
 use Rattle.std_alloc.specs.contracts.boxed.Box.into_raw_with_allocator as Ra
 use Rattle.std_alloc.proofs.boxed.Box.into_raw_with_allocator.Symbol as raw_sym
 use Rattle.std_alloc.proofs.boxed.Box.into_raw_with_allocator.Met as raw_met
-use Rattle.zetampuy.specs.contracts.parts.Parts.of as F
-use Rattle.zetampuy.specs.contracts.parts.Parts.of.Key.{name as #self}
-use Rattle.zetampuy.proofs.parts.Parts.of.Statement as stated
-use Rattle.zetampuy.proofs.parts.Parts.of.Code as code
+use Rattle.zetampuy.specs.contracts.unboxed.Unboxed.of as F
+use Rattle.zetampuy.specs.contracts.unboxed.Unboxed.of.Key.{name as #self}
+use Rattle.zetampuy.proofs.unboxed.Unboxed.of.Statement as stated
+use Rattle.zetampuy.proofs.unboxed.Unboxed.of.Code as code
 
 module _ (E : Bx) (dx : Dict) where
   abbrev args : Args
@@ -60,7 +60,7 @@ module _ (E : Bx) (dx : Dict) where
   stayed = (stay_dropped (plain (λ _. B E)) no, tt)
 
   abbrev To : RattleType
-  To = parts.the_row (R E) (P E) E.al.g
+  To = unboxed.the_row (R E) (P E) E.al.g
 
   module _ {M : Type 1} {𝓤 : Ura M} (𝓛 : Logic 𝓤) (at_mem : Memory → SProp 𝓤) (run : Routine → Fun 𝓤) (𝓣 : Tables 𝓤 𝓛.H) where
     open 𝓛 use {H}

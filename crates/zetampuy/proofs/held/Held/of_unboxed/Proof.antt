@@ -1,4 +1,4 @@
--- `of_parts` moves the pointer, and what it owns goes with it.
+-- `of_unboxed` moves the pointer, and what it owns goes with it.
 use mathlib.Core.Path.{refl, sym, subst}
 use mathlib.Core.List.{List, [], ◌∷◌, ◌++◌}
 use Rattle.std.proofs.Common.{Some}
@@ -28,13 +28,13 @@ use denote.Triple.Table.{entered}
 use denote.Triple.Walked.{says, Stays, stay_dropped, walk_of, ends_at, Goes-dropped, walk_Meets}
 use Rattle.std_alloc.proofs.BoxSteps.Form.{D, B, word, box_typed}
 use Rattle.std_alloc.proofs.BoxSteps.Steps.{box_out}
-use Rattle.zetampuy.proofs.Boxed.{E, FromParts as From}
+use Rattle.zetampuy.proofs.Boxed.{E, FromUnboxed as From}
 use Rattle.zetampuy.specs.Held.{held_owns}
 use Rattle.zetampuy.specs.contracts.held.Held as C
-use Rattle.zetampuy.specs.contracts.held.Held.of_parts as F
-use Rattle.zetampuy.specs.contracts.held.Held.of_parts.Key.{name as #self}
-use Rattle.zetampuy.proofs.held.Held.of_parts.Statement as stated
-use Rattle.zetampuy.proofs.held.Held.of_parts.Code as code
+use Rattle.zetampuy.specs.contracts.held.Held.of_unboxed as F
+use Rattle.zetampuy.specs.contracts.held.Held.of_unboxed.Key.{name as #self}
+use Rattle.zetampuy.proofs.held.Held.of_unboxed.Statement as stated
+use Rattle.zetampuy.proofs.held.Held.of_unboxed.Code as code
 
 abbrev stayed : Stays (F.ended).signature.params (F.ended).kept
 stayed = (stay_dropped From yes, tt)
@@ -62,9 +62,9 @@ module _ {M : Type 1} {𝓤 : Ura M} (𝓛 : Logic 𝓤) (at_mem : Memory → SP
       suffices ! _ (ends_at 𝓛 F.ended stayed (F.clauses 𝓛 at_mem run) z w made (tt, tt) (tt, tt)) $ says ! refl $
       nothing ! $ nothing ! $ fjoin ! $ join ! $ nothing ! $ join ! $ done !))))
 
-pub of_parts_spec : {M : Type 1} → stated.statement M
+pub of_unboxed_spec : {M : Type 1} → stated.statement M
 unfolding tables_of
-of_parts_spec 𝓤 𝓛 𝓜 𝓡 wired =
+of_unboxed_spec 𝓤 𝓛 𝓜 𝓡 wired =
     let 𝓣 : Tables 𝓤 𝓛.H = tables_of 𝓤 𝓛.H 𝓜 (tables 𝓤 𝓛.H 𝓜 𝓡 𝓡.env) in
     entered 𝓤 𝓛.H (triple_of 𝓛 F.signature (F.spec 𝓛 𝓜.mem 𝓡.returns)) 𝓣.C 𝓣.Λ #self code.function (code.unfolded 𝓤 𝓛.H 𝓜 𝓡 wired)
     (walk_Meets 𝓛 F.ended stayed (Goes-dropped 𝓛 0 From yes (λ κs x f. refl), tt) (F.clauses 𝓛 𝓜.mem 𝓡.returns) (WpFn 𝓤 𝓛.H 𝓣.C 𝓣.Λ code.function) (WpFn-mono 𝓤 𝓛.H 𝓛.laws 𝓣 code.function)

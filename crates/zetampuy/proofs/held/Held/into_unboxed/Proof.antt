@@ -1,4 +1,4 @@
--- `into_parts` moves the pointer, and what it owns goes with it.
+-- `into_unboxed` moves the pointer, and what it owns goes with it.
 use mathlib.Core.Path.{◌≡◌, refl, sym, subst, ap, ◌∙◌}
 use mathlib.Core.List.{List, [], ◌∷◌, ◌++◌}
 use Rattle.std.proofs.Common.{ℕ, Some, None, Option, IsSome, arith}
@@ -31,11 +31,11 @@ use Rattle.std_alloc.proofs.BoxSteps.Steps.{box_in}
 use Rattle.zetampuy.proofs.Boxed.{E, FromHeld, FromHeap}
 use Rattle.zetampuy.specs.Held.{held_owns}
 use Rattle.zetampuy.specs.contracts.held.Held as C
-use Rattle.zetampuy.specs.contracts.parts.Parts as Parts
-use Rattle.zetampuy.specs.contracts.held.Held.into_parts as F
-use Rattle.zetampuy.specs.contracts.held.Held.into_parts.Key.{name as #self}
-use Rattle.zetampuy.proofs.held.Held.into_parts.Statement as stated
-use Rattle.zetampuy.proofs.held.Held.into_parts.Code as code
+use Rattle.zetampuy.specs.contracts.unboxed.Unboxed as Unboxed
+use Rattle.zetampuy.specs.contracts.held.Held.into_unboxed as F
+use Rattle.zetampuy.specs.contracts.held.Held.into_unboxed.Key.{name as #self}
+use Rattle.zetampuy.proofs.held.Held.into_unboxed.Statement as stated
+use Rattle.zetampuy.proofs.held.Held.into_unboxed.Code as code
 
 abbrev stayed : Stays (F.ended).signature.params (F.ended).kept
 stayed = (stay_dropped FromHeld yes, (stay_dropped FromHeap yes, tt))
@@ -63,7 +63,7 @@ module _ {M : Type 1} {𝓤 : Ura M} (𝓛 : Logic 𝓤) (at_mem : Memory → SP
       let w : Val = vstruct (of_list (p ∷ [])) in
       let is_w : us ≡ w ∷ [] = ev ∙ ap (λ (ps : List Val). vstruct (of_list (ps ++ [])) ∷ []) (ep ∙ ap (λ (q : Ptr). ptr_val q ∷ []) e) in
       let d : D E = record { ptr = block_ptr b o; alloc = g; value = x } in
-      let To = Parts.the_row (R E) (P E) E.al.g in
+      let To = Unboxed.the_row (R E) (P E) E.al.g in
       let made : To.Denot = record { ptr = block_ptr b o; alloc = g; value = x } in
       let Γ : List (Item 𝓤) = ‵ (To.own_val made (word E hv b o ∷ [])) ∷ [] in
       box_in E ! d b o x refl refl $ use1 𝓛 (‵ (To.own_val made (word E hv b o ∷ []))) (id⊢ 𝓤 _) $
@@ -74,9 +74,9 @@ module _ {M : Type 1} {𝓤 : Ura M} (𝓛 : Logic 𝓤) (at_mem : Memory → SP
       suffices ! _ (ends_at 𝓛 F.ended stayed (F.clauses 𝓛 at_mem run) z (word E hv b o) made (tt, (tt, tt)) (tt, (tt, tt))) $ says ! found.1 $
       nothing ! $ nothing ! $ fjoin ! $ nothing ! $ fjoin ! $ join ! $ nothing ! $ join ! $ done !)))))))))
 
-pub into_parts_spec : {M : Type 1} → stated.statement M
+pub into_unboxed_spec : {M : Type 1} → stated.statement M
 unfolding tables_of
-into_parts_spec 𝓤 𝓛 𝓜 𝓡 wired =
+into_unboxed_spec 𝓤 𝓛 𝓜 𝓡 wired =
     let 𝓣 : Tables 𝓤 𝓛.H = tables_of 𝓤 𝓛.H 𝓜 (tables 𝓤 𝓛.H 𝓜 𝓡 𝓡.env) in
     entered 𝓤 𝓛.H (triple_of 𝓛 F.signature (F.spec 𝓛 𝓜.mem 𝓡.returns)) 𝓣.C 𝓣.Λ #self code.function (code.unfolded 𝓤 𝓛.H 𝓜 𝓡 wired)
     (walk_Meets 𝓛 F.ended stayed (Goes-dropped 𝓛 0 FromHeld yes (λ κs x f. refl), (Goes-dropped 𝓛 0 FromHeap yes (λ κs x f. refl), tt)) (F.clauses 𝓛 𝓜.mem 𝓡.returns) (WpFn 𝓤 𝓛.H 𝓣.C 𝓣.Λ code.function) (WpFn-mono 𝓤 𝓛.H 𝓛.laws 𝓣 code.function)

@@ -1,4 +1,4 @@
--- `into_box` hands what the parts own to `from_raw`.
+-- `into_box` hands what the pointer owns to `from_raw`.
 use mathlib.Core.Path.{◌≡◌, refl, sym, subst, ap}
 use mathlib.Core.List.{List, [], ◌∷◌, ◌++◌}
 use lib.Dec.{T}
@@ -35,14 +35,14 @@ use Rattle.core.proofs.alloc.Calls.{token, Goes-blank}
 use Rattle.std_alloc.specs.Box.Ownership.{box_owns}
 use Rattle.std_alloc.proofs.BoxSteps.Form.{Bx, D, R, P, B, args, box_ty, word, box_typed}
 use Rattle.std_alloc.proofs.BoxSteps.Steps.{box_out, box_in}
-use Rattle.zetampuy.specs.contracts.parts.Parts as parts
+use Rattle.zetampuy.specs.contracts.unboxed.Unboxed as unboxed
 use Rattle.std_alloc.specs.contracts.boxed.Box.from_raw as Fr
 use Rattle.std_alloc.proofs.boxed.Box.from_raw.Symbol as raw_sym
 use Rattle.std_alloc.proofs.boxed.Box.from_raw.Met as raw_met
-use Rattle.zetampuy.specs.contracts.parts.Parts.into_box as F
-use Rattle.zetampuy.specs.contracts.parts.Parts.into_box.Key.{name as #self}
-use Rattle.zetampuy.proofs.parts.Parts.into_box.Statement as stated
-use Rattle.zetampuy.proofs.parts.Parts.into_box.Code as code
+use Rattle.zetampuy.specs.contracts.unboxed.Unboxed.into_box as F
+use Rattle.zetampuy.specs.contracts.unboxed.Unboxed.into_box.Key.{name as #self}
+use Rattle.zetampuy.proofs.unboxed.Unboxed.into_box.Statement as stated
+use Rattle.zetampuy.proofs.unboxed.Unboxed.into_box.Code as code
 
 abbrev rest : Body
 rest = seq (assign (place 0 []) (rv_opd (copy (place 4 [])))) return
@@ -55,7 +55,7 @@ module _ (E : Bx) where
   ended = F.ended E.row E.al.row E.al.g E.al.d E.al.drops
 
   abbrev From : RattleType
-  From = parts.the_row (R E) (P E) E.al.g
+  From = unboxed.the_row (R E) (P E) E.al.g
 
   abbrev stayed : Stays ended.signature.params ended.kept
   stayed = (stay_dropped (plain (λ _. From)) no, tt)
