@@ -5,6 +5,7 @@ pub mod equipment;
 mod output;
 pub mod program;
 pub mod reckoner;
+pub mod theorems;
 pub mod unanswered;
 
 pub use equipment::Equipment;

@@ -17,7 +17,8 @@ pub fn run<E: Equipment>(rt: &HostRuntime, equipment: &E) -> io::Result<()> {
 }
 
 /// Answers the run file that is the whole of an input, however long that is, and writes the lines to an output. (Where an input or
-/// an output does not tell its bytes, as those of a process, nothing is said of them.)
+/// an output does not tell its bytes, as those of a process, nothing is said of them, and nothing where memory, reading or writing
+/// fails.)
 pub fn answer_input<R: Read + Drop, W: Write, E: Equipment>(
     heap: Global,
     input: R,

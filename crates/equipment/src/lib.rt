@@ -8,9 +8,9 @@ ghost use Rattle.rules.specs.Sample.{example_stock};
 ghost use Rattle.rules.specs.Table.{table_pull};
 
 use answering::Equipment;
+use laws::{Diesel, diesel};
 use layers::Scale;
 use pull_table::PullTable;
-use report::{Diesel, diesel};
 
 /// Cast iron blocks, wagons, and a DF4 locomotive that pulls nine tenths of the table of the run file.
 pub struct NineTenths;

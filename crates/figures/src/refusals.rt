@@ -1,10 +1,10 @@
 use haulage::mass;
 use history::Reply;
-use laws::{Freight, NoPull};
+use laws::{Freight, NoPull, diesel};
 use layers::Scale;
 use printing::print_reply;
 use reckoning::stop;
-use report::{Outcome, diesel, example_pull, example_sheet, tell, tell_stop};
+use report::{Outcome, example_pull, example_sheet, tell, tell_stop};
 use rules::{MassQuestion, SectionFigures, StopQuestion, VehicleFigures};
 use runfile::RunFile;
 use sheet::Sheet;
@@ -110,8 +110,9 @@ fn files(rt: &HostRuntime) -> io::Result<()> {
         ("a run file in small letters", b"run 1\n"),
         ("a run file of two runs", b"RUN 2\n"),
     ] {
-        let read = file.read(&mut sheet, text).map_err(|fault| fault.refusal);
-        tell(rt, label, Outcome::of(read))?;
+        if let Err(fault) = file.read(&mut sheet, text) {
+            println!(rt; "{label}: {fault}")?;
+        }
     }
     Ok(())
 }

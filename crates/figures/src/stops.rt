@@ -1,6 +1,6 @@
-use laws::{ElectroPneumatic, Freight, FreightByHand, NoPull, Passenger, PassengerByHand};
+use laws::{ElectroPneumatic, Freight, FreightByHand, NoPull, Passenger, PassengerByHand, diesel};
 use reckoning::stop;
-use report::{Outcome, diesel, example_sheet, stop_of_example, tell_stop};
+use report::{Outcome, example_sheet, stop_of_example, tell_stop};
 use rules::{SectionFigures, StopFigures, StopQuestion, VehicleFigures};
 use sheet::Sheet;
 use std::io;

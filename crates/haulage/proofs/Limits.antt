@@ -24,6 +24,9 @@ same_test a b c d on back = by_first (leb a b) refl
 
 -- ---- of a force
 
+pub pulled : (n p a t : ℕ) → a ≡ n → t ≡ 10000 * p → a * t ≡ 10000 * n * p
+pulled n p a t e f = ap (λ (x : ℕ). x * t) e ∙ ap (λ (x : ℕ). n * x) f ∙ omega arith
+
 pub moved : (o : Option ℕ) (force r n : ℕ) → SomeIff o (0 < r) (force / r) → n ≡ min (unwrap_or o 18446744073709551615) 100000 → IsLimit (moves force r) n
 moved (Some k) force r n is e =
     record {

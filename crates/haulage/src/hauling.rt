@@ -1,6 +1,6 @@
 ghost use Rattle.rules.specs.Mass.{moving, starting, balanced};
 ghost use Rattle.haulage.specs.Limits.{IsLimit, moves};
-ghost use Rattle.std.specs.Prelude.{◌≡◌};
+ghost use Rattle.std.specs.Prelude.{◌≡◌, ◌+◌, ◌*◌, ◌≤◌};
 
 use laws::{Running, StockLaws};
 use train::Totals;
@@ -51,21 +51,36 @@ impl Hauling {
     }
 
     // The greatest mass of wagons, in tenths of a tonne, that the locomotives of a train haul so on a rise.
-    pub(crate) fn limit(self, train: Totals, rise: Milli) -> u32
-        ensures { IsLimit (balanced (engines_of train) self.coupler (readings_on self rise)) result }
+    pub(crate) fn limit(&self, train: Totals, rise: Milli) -> u32
+        ensures { IsLimit (balanced (engines_of train) self.now.coupler (readings_on self.now rise)) result }
     {
-        let grade = u64::from(rise.count()) + u64::from(self.added.count());
-        let own = u64::from(train.hauling) * (u64::from(self.pulling.count()) + grade);
-        let pull = 10_000 * u64::from(train.locomotives) * u64::from(self.pull.count());
-        let Some(spare) = pull.checked_sub(own) else {
+        let own = self.resistance(self.pulling, rise, train.hauling);
+        let Some(spare) = self.pull_of(train.locomotives).checked_sub(own) else {
             return 0;
         };
-        let coupler = 10_000 * u64::from(self.coupler.count());
-        moved_by(spare.min(coupler), u64::from(self.wagon.count()) + grade)
+        let coupler = self.coupler.ten_thousandths();
+        moved_by(spare.min(coupler), self.resistance(self.wagon, rise, 1))
+    }
+
+    // The pull of so many locomotives together, in ten-thousandths of kgf.
+    #[tactic(auto, using(crate::proofs::Limits::pulled))]
+    fn pull_of(&self, locomotives: u32) -> u64
+        requires { locomotives ≤ 120 }
+        ensures { result ≡ 10000 * locomotives * self.now.pull }
+    {
+        u64::from(locomotives) * self.pull.ten_thousandths()
+    }
+
+    // What resists the motion of a mass in tenths of a tonne, by its drag, on a rise: in ten-thousandths of kgf.
+    fn resistance(&self, drag: Milli, rise: Milli, mass: u32) -> u64
+        requires { mass ≤ 240000 }
+        ensures { result ≡ mass * (drag + (rise + self.now.added)) }
+    {
+        drag.on_mass(mass) + rise.on_mass(mass) + self.added.on_mass(mass)
     }
 }
 
-// How many tenths of a tonne a force moves, each of which resists by so much.
+// How many tenths of a tonne a force moves, each of which resists by so much; both in ten-thousandths of kgf.
 #[tactic(auto, using(crate::proofs::Limits::moved))]
 fn moved_by(force: u64, resistance: u64) -> u32
     ensures { IsLimit (moves force resistance) result }

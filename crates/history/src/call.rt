@@ -32,17 +32,17 @@ pub enum Call<Q> {
 
 /// A call, and beside it the place for its reply: none where it was not performed yet.
 #[derive(Clone, Copy)]
-pub struct Entry<Q> {
+pub struct Exchange<Q> {
     pub call: Call<Q>,
     pub reply: Option<Reply>,
 }
 
-impl<Q> From<Call<Q>> for Entry<Q> {
+impl<Q> From<Call<Q>> for Exchange<Q> {
     ghost from_gives = { λ c e. (e.call ≡ c) × (e.reply ≡ None) };
 
     // A call that is still to be performed.
-    fn from(call: Call<Q>) -> Entry<Q> {
-        Entry { call, reply: None }
+    fn from(call: Call<Q>) -> Exchange<Q> {
+        Exchange { call, reply: None }
     }
 }
 
@@ -70,12 +70,12 @@ impl<Q: Inquiry> Call<Q> {
     }
 }
 
-impl<Q: Inquiry> Entry<Q> {
-    ghost use Rattle.history.specs.Calls.{EntryPerformed};
+impl<Q: Inquiry> Exchange<Q> {
+    ghost use Rattle.history.specs.Calls.{ExchangePerformed};
 
     // Performs the call on a sheet, and puts its reply beside it.
     pub(crate) fn perform(&mut self, sheet: &mut Sheet)
-        ensures { EntryPerformed Q.inquiry sheet.old self.old self.new sheet.new }
+        ensures { ExchangePerformed Q.inquiry sheet.old self.old self.new sheet.new }
     {
         self.reply = Some(self.call.perform(sheet));
     }

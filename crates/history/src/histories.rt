@@ -1,21 +1,21 @@
 ghost use Rattle.rules.specs.Book.{new_book};
 ghost use Rattle.history.specs.Calls.{AllPerformed};
 
-use crate::call::Entry;
+use crate::call::Exchange;
 use crate::inquiry::Inquiry;
 use sheet::Sheet;
 
 /// Performs calls in their order on a sheet, whatever was done with it before, and puts the reply to each beside it.
-pub fn perform<Q: Inquiry>(sheet: &mut Sheet, calls: &mut [Entry<Q>])
+pub fn perform<Q: Inquiry>(sheet: &mut Sheet, calls: &mut [Exchange<Q>])
     ensures { AllPerformed Q.inquiry sheet.old calls.old calls.new sheet.new }
 {
-    for entry in calls.iter_mut() {
-        entry.perform(sheet);
+    for exchange in calls.iter_mut() {
+        exchange.perform(sheet);
     }
 }
 
 /// Performs calls in their order on a sheet that is emptied first, as on a new one.
-pub fn perform_anew<Q: Inquiry>(sheet: &mut Sheet, calls: &mut [Entry<Q>])
+pub fn perform_anew<Q: Inquiry>(sheet: &mut Sheet, calls: &mut [Exchange<Q>])
     ensures { AllPerformed Q.inquiry new_book calls.old calls.new sheet.new }
 {
     sheet.clear();

@@ -10,7 +10,7 @@ pub mod lettered;
 pub mod reply;
 
 pub use asked::Asked;
-pub use call::{Call, Entry};
+pub use call::{Call, Exchange};
 pub use either::Either;
 pub use histories::{perform, perform_anew};
 pub use inquiry::Inquiry;

@@ -1,19 +1,18 @@
-use history::{Call, Entry, Lettered};
-use laws::KindLetter;
+use history::{Call, Exchange, Lettered};
+use laws::{Diesel, KindLetter};
 use layers::Scale;
 use pull_table::PullTable;
-use report::Diesel;
 use rules::{MassQuestion, Question, SpeedQuestion, StopQuestion};
 
 /// The laws of the train: a DF4 locomotive that pulls a part of a table.
 pub type Pulled = Diesel<Scale<PullTable>>;
 
 /// A call of the week, and the place for its reply.
-pub type Noted<'a> = Entry<Lettered<'a, Pulled>>;
+pub type Noted<'a> = Exchange<Lettered<'a, Pulled>>;
 
 /// A question by a kind of brake, still to be put.
 pub fn ask<'a>(stock: &'a Pulled, kind: KindLetter, question: Question) -> Noted<'a> {
-    Entry::from(Call::Ask(Lettered::new(stock, kind, question)))
+    Exchange::from(Call::Ask(Lettered::new(stock, kind, question)))
 }
 
 /// How far the train needs to stop.

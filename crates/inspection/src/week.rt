@@ -1,12 +1,11 @@
 use crate::calls::{Pulled, ask, mass, speed, stop};
 use crate::show::show_sheet;
 use crate::telling::{tell_calls, tell_history};
-use history::{Call, Entry, perform};
-use laws::KindLetter;
+use history::{Call, Exchange, perform};
 use laws::KindLetter::{F, H, P};
+use laws::{KindLetter, diesel};
 use layers::Scale;
 use pull_table::PullTable;
-use report::diesel;
 use rules::{PointFigures, Question, SectionFigures, VehicleFigures};
 use runfile::RunFile;
 use sheet::Sheet;
@@ -73,16 +72,16 @@ impl Week {
     pub fn inspect(&self, rt: &HostRuntime, sheet: &mut Sheet) -> io::Result<()> {
         let stock = &self.measured;
         let mut calls = [
-            Entry::from(Call::CutOut(1)),
+            Exchange::from(Call::CutOut(1)),
             ask(stock, self.kind, stop(0, 100, 10)),
-            Entry::from(Call::CutOut(5)),
+            Exchange::from(Call::CutOut(5)),
             ask(stock, self.kind, stop(2500, 100, 10)),
             ask(stock, self.kind, speed(0, 10)),
-            Entry::from(Call::CutOut(0)),
+            Exchange::from(Call::CutOut(0)),
             ask(stock, self.kind, stop(0, 100, 10)),
             ask(stock, self.kind, speed(0, 10)),
-            Entry::from(Call::Restore(0)),
-            Entry::from(Call::Restore(1)),
+            Exchange::from(Call::Restore(0)),
+            Exchange::from(Call::Restore(1)),
             ask(stock, self.kind, stop(0, 100, 10)),
         ];
         perform(sheet, &mut calls);
@@ -113,14 +112,14 @@ impl Week {
     pub fn send_off(&self, rt: &HostRuntime, sheet: &mut Sheet) -> io::Result<()> {
         let stock = &self.measured;
         let mut calls = [
-            Entry::from(Call::SetDistance(300)),
-            Entry::from(Call::SetDistance(1500)),
+            Exchange::from(Call::SetDistance(300)),
+            Exchange::from(Call::SetDistance(1500)),
             ask(stock, self.kind, stop(0, 600, 7)),
             ask(stock, self.kind, speed(0, 7)),
-            Entry::from(Call::Uncouple),
+            Exchange::from(Call::Uncouple),
             ask(stock, self.kind, stop(0, 600, 7)),
             ask(stock, self.kind, speed(0, 7)),
-            Entry::from(Call::Lift),
+            Exchange::from(Call::Lift),
             ask(stock, self.kind, stop(0, 600, 7)),
             ask(stock, self.kind, speed(0, 7)),
             ask(stock, self.kind, mass(200, 600)),
@@ -139,9 +138,9 @@ impl Week {
     ) -> io::Result<()> {
         let stock = &self.measured;
         let mut calls = [
-            Entry::from(Call::Couple(VehicleFigures::new('W', 40, 10))),
-            Entry::from(Call::Couple(VehicleFigures::new('W', 800, 300))),
-            Entry::from(Call::Append(SectionFigures::straight(1000, -60))),
+            Exchange::from(Call::Couple(VehicleFigures::new('W', 40, 10))),
+            Exchange::from(Call::Couple(VehicleFigures::new('W', 800, 300))),
+            Exchange::from(Call::Append(SectionFigures::straight(1000, -60))),
             ask(stock, self.kind, stop(2500, 100, 10)),
             ask(stock, self.kind, speed(2500, 10)),
             ask(stock, self.kind, mass(200, 600)),

@@ -3,6 +3,7 @@
 
 pub mod adhesion;
 pub mod blocks;
+pub mod df4;
 pub mod drags;
 pub mod kind;
 pub mod law;
@@ -12,6 +13,7 @@ pub mod stock;
 
 pub use adhesion::AdhesionPull;
 pub use blocks::{CastIron, Composite};
+pub use df4::{Diesel, diesel};
 pub use drags::{QuadraticDrag, WagonDrag};
 pub use kind::{
     BrakeKind, ElectroPneumatic, Freight, FreightByHand, KindLetter, Passenger, PassengerByHand,

@@ -10,7 +10,7 @@ use Rattle.rules.specs.Questions.{lawful_section}
 use Rattle.line.specs.Curve.{CurveFigures, curve_of}
 use Rattle.line.specs.declared.section.Section.TheInside.{Inside}
 
--- the figures that it was given by: no curve is 0 over 0, and a stop is marked by 1
+-- the figures that it was given by: where there is no curve its length and its radius are 0, and a stop is marked by 1
 abbrev pub figures_of : Inside → SectionFigures
 figures_of s = record {
   metres = s.metres;
@@ -41,6 +41,8 @@ pub record IsLawful (s : Inside) : Type 0 where
   pub rising : s.gradient ≤ℤ pos 400
   pub inside : IfSome s.curve (λ c. (1 ≤ c.metres) × (c.metres ≤ s.metres))
 
+-- ---- a section's figures give it back (what the model of a section cites has to stand here, proofs too)
+
 -- a number of 1 or more is not 0, so that the second is meant
 cond-some : {X : Type 0} (n : ℕ) (x y : X) → 1 ≤ n → cond (n == 0) x y ≡ y
 cond-some n x y h = let some : n ≡ 0 → ⊥ = λ e. omega arith in rw (ne_eqb n 0 some)
@@ -54,7 +56,6 @@ stop_back : (b : Bool) → (cond b 1 0 == 1) ≡ b
 stop_back true = refl
 stop_back false = refl
 
--- a section's figures give it back
 pub section_of-figures_of : (s : Inside) → IsLawful s → section_of (figures_of s) ≡ s
 section_of-figures_of s h = rw (curve_back s.curve s.metres h.inside, stop_back s.stop)
 

@@ -6,7 +6,7 @@ ghost use Rattle.std.specs.Prelude.{[], ◌∷◌};
 
 use crate::disc::DiscBlocks;
 use crate::kind::Combined;
-use history::{Asked, Call, Either, Entry, Reply, perform};
+use history::{Asked, Call, Either, Exchange, Reply, perform};
 use laws::{
     AdhesionPull, CastIron, Composite, Freight, Locomotive, Passenger, QuadraticDrag, Stock,
     StockLaws, WagonDrag,
@@ -78,21 +78,21 @@ pub fn mix(
         blended,
     } = stocks;
     let calls: &mut [_] = &mut [
-        Entry::from(Call::Couple(vehicle)),
-        Entry::from(Call::Ask(Either::Left(Asked::<Freight, _>::new(
+        Exchange::from(Call::Couple(vehicle)),
+        Exchange::from(Call::Ask(Either::Left(Asked::<Freight, _>::new(
             diesel,
             Question::Stop(stop),
         )))),
-        Entry::from(Call::CutOut(k)),
-        Entry::from(Call::Ask(Either::Right(Either::Left(Asked::<Passenger, _>::new(
+        Exchange::from(Call::CutOut(k)),
+        Exchange::from(Call::Ask(Either::Right(Either::Left(Asked::<Passenger, _>::new(
             electric,
             Question::Stop(stop),
         ))))),
-        Entry::from(Call::Ask(Either::Right(Either::Right(Asked::<Combined, _>::new(
+        Exchange::from(Call::Ask(Either::Right(Either::Right(Asked::<Combined, _>::new(
             blended,
             Question::Speed(speed),
         ))))),
-        Entry::from(Call::Ask(Either::Right(Either::Right(Asked::<Combined, _>::new(
+        Exchange::from(Call::Ask(Either::Right(Either::Right(Asked::<Combined, _>::new(
             blended,
             Question::Mass(mass),
         ))))),

@@ -11,7 +11,7 @@ use Rattle.rules.specs.Stop.{Approach}
 unfoldable pub is_answered : Kind → Approach → ℕ → Bool
 is_answered k a v = is_none (first_no (stopping k a v))
 
--- the last one from rest on
+-- the last speed before the first one from which the stop is refused
 abbrev pub last_answered : Kind → Approach → ℕ
 last_answered k a = last_before_failure (is_answered k a) 0 32
 

@@ -78,9 +78,7 @@ impl Approach {
         let train = Braking::new(*self, stock);
         let brake = train.strong_brake(v)?;
         let run = train.run(v)?;
-        let distance = train.distance::<K>(v, brake, run);
-        let least = run.least.min(u64::from(brake.count()));
-        Ok((distance, least as u32, run.steps))
+        Ok(train.figures::<K>(v, brake, run))
     }
 
     // Whether a distance in millimetres lies within the braking distance.

@@ -14,7 +14,7 @@ use units::{BrakeRatio, Milli, Speed};
 // A train that brakes: what its approach reads of the sheet, how hard its blocks are pressed on, and the laws of its stock.
 #[derive(Drop)]
 pub(crate) struct Braking<'a, S> {
-    approach: Approach,
+    pub(crate) approach: Approach,
     pressing: BrakeRatio,
     stock: &'a S,
     ghost pressed: { pressing ≡ ratio (approach.factor * approach.pressure) (10 * (approach.hauling + approach.trailing)) },
@@ -140,21 +140,15 @@ impl<'a, S: StockLaws> Braking<'a, S> {
         self.run_over(run, edge(run.steps + 1).min(v))
     }
 
-    // Whether the train stops from a speed within the braking distance, where its forces hold it.
-    pub(crate) fn is_in_time<K: BrakeKind>(&self, v: Speed, brake: Milli, run: Run) -> bool
+    // The figures of a stop from a speed, by its brake force and its run: the distance in millimetres, with what the train runs
+    // before the brakes hold; the least force in milli; and the number of steps.
+    pub(crate) fn figures<K: BrakeKind>(&self, v: Speed, brake: Milli, run: Run) -> (u64, u32, u32)
         requires { 1 ≤ brake }
-        ensures { result ≡ nat_le (delay_run (kind K.T K.C) v brake self.now.approach.lowest + run.distance) (1000 * self.now.approach.reach) }
+        ensures { result ≡ (delay_run (kind K.T K.C) v brake self.now.approach.lowest + run.distance, min run.least brake, run.steps) }
     {
-        self.approach
-            .is_within_reach(self.distance::<K>(v, brake, run))
-    }
-
-    // The distance in millimetres in which the train stops from a speed: what it runs before the brakes hold, and its steps.
-    pub(crate) fn distance<K: BrakeKind>(&self, v: Speed, brake: Milli, run: Run) -> u64
-        requires { 1 ≤ brake }
-        ensures { result ≡ delay_run (kind K.T K.C) v brake self.now.approach.lowest + run.distance }
-    {
-        self.delay::<K>(v, brake) + run.distance
+        let distance = self.delay::<K>(v, brake) + run.distance;
+        let least = run.least.min(u64::from(brake.count()));
+        (distance, least as u32, run.steps)
     }
 
     // The distance in millimetres that the train runs before the brakes hold.

@@ -57,7 +57,8 @@ fn run_in_time<K: BrakeKind, S: StockLaws>(
 {
     let brake = train.strong_brake(v)?;
     let run = train.run_over(below, v)?;
-    if !train.is_in_time::<K>(v, brake, run) {
+    let (distance, _, _) = train.figures::<K>(v, brake, run);
+    if !train.approach.is_within_reach(distance) {
         return Err(Refusal::StopsTooFar);
     }
     Ok(run)

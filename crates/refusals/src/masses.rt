@@ -1,5 +1,6 @@
 use haulage::mass;
-use report::{diesel, example_sheet, example_table};
+use laws::diesel;
+use report::{example_sheet, example_table};
 use rules::{MassQuestion, SectionFigures, VehicleFigures};
 use sheet::Sheet;
 use std::io;

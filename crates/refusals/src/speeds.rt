@@ -1,6 +1,6 @@
-use laws::{Freight, NoPull};
+use laws::{Freight, NoPull, diesel};
 use reckoning::speed;
-use report::{diesel, example_sheet};
+use report::example_sheet;
 use rules::{SectionFigures, SpeedQuestion, VehicleFigures};
 use sheet::Sheet;
 use std::io;

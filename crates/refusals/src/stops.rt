@@ -1,6 +1,6 @@
-use laws::{Freight, NoPull};
+use laws::{Freight, NoPull, diesel};
 use reckoning::stop;
-use report::{Outcome, diesel, example_sheet, tell_stop};
+use report::{Outcome, example_sheet, tell_stop};
 use rules::{StopFigures, StopQuestion};
 use std::io;
 

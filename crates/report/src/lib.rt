@@ -8,5 +8,5 @@ pub mod stops;
 
 pub use outcome::{Outcome, Passed};
 pub use printing::{tell, tell_quadratic_drags, tell_readings, tell_stop};
-pub use sample::{Diesel, diesel, example_pull, example_sheet, example_table, stop_of_example};
+pub use sample::{example_pull, example_sheet, example_table, stop_of_example};
 pub use stops::StopWithAllowance;

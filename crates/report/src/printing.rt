@@ -1,6 +1,5 @@
 use crate::outcome::Outcome;
-use crate::sample::diesel;
-use laws::{BrakeKind, Law, NoPull, QuadraticDrag, Reading};
+use laws::{BrakeKind, Law, NoPull, QuadraticDrag, Reading, diesel};
 use reckoning::stop;
 use rules::{StopFigures, StopQuestion};
 use sheet::Sheet;

@@ -1,37 +1,16 @@
 ghost use Rattle.report.specs.Samples.{example_book};
-ghost use Rattle.rules.specs.Formulas.{df4_a, df4_b, df4_c};
 ghost use Rattle.rules.specs.Refusals.{stop_reply};
 ghost use Rattle.rules.specs.Sample.{example_points, example_pull, example_stop};
 ghost use Rattle.pull_table.specs.Tables.{points_of};
 ghost use Rattle.std.specs.Prelude.{◌≡◌, IfOk};
 
-use laws::{CastIron, Freight, Locomotive, QuadraticDrag, Stock, WagonDrag};
+use laws::{Freight, diesel};
 use layers::Scale;
 use pull_table::PullTable;
 use reckoning::stop;
 use rules::{PointFigures, Refusal, SectionFigures, StopQuestion, VehicleFigures};
 use sheet::Sheet;
 use std::alloc::{AllocError, Global};
-
-/// Cast iron blocks, a diesel locomotive of some pull with a drag by three constants, and wagons.
-pub type Diesel<L> = Stock<CastIron, Locomotive<L, QuadraticDrag, QuadraticDrag>, WagonDrag>;
-
-/// The stock with a DF4 locomotive of this pull.
-pub fn diesel<L>(pull: L) -> Diesel<L>
-    ensures pull { result.locomotive.pull ≡ pull }
-    ensures pulling { (result.locomotive.pulling.a ≡ df4_a) × (result.locomotive.pulling.b ≡ df4_b) × (result.locomotive.pulling.c ≡ df4_c) }
-    ensures coasting { (result.locomotive.coasting.a ≡ df4_a) × (result.locomotive.coasting.b ≡ df4_b) × (result.locomotive.coasting.c ≡ df4_c) }
-{
-    Stock {
-        friction: CastIron,
-        locomotive: Locomotive {
-            pull,
-            pulling: QuadraticDrag::df4(),
-            coasting: QuadraticDrag::df4(),
-        },
-        wagon: WagonDrag,
-    }
-}
 
 /// A pull of 40,000 kgf at rest and 20,000 kgf at 40 km/h.
 pub fn example_table() -> PullTable

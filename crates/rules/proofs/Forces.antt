@@ -1,6 +1,7 @@
 -- The forces of a step: the whole force is at most the exact one, wherever in the step that is read.
-use Rattle.std.proofs.Common.{ℕ, ◌+◌, ◌*◌, ◌≤◌, List, pos, ◌+ℤ◌, mul-le-mul_left, mul-le-mul_right, mul-pos, div-mul-le_self, arith}
+use Rattle.std.proofs.Common.{◌≡◌, ℕ, ◌+◌, ◌*◌, ◌≤◌, List, ℤ, pos, negsuc, ◌≤ℤ◌, refl, ◌+ℤ◌, mul-le-mul_left, mul-le-mul_right, mul-pos, div-mul-le_self, arith}
 use native.Mathlib.Nat.{le_of_mul-le-mul_left}
+use borrow.Author.Differences.{up, le_out}
 use Rattle.rules.specs.declared.figures.SectionFigures.{SectionFigures}
 use Rattle.rules.specs.Law.{Falling, LawfulFalling, Drag, LawfulDrag, LawfulStock}
 use Rattle.rules.specs.Fraction.{Fraction, whole, Proper, ◌≤F◌, ◌+F◌}
@@ -9,6 +10,11 @@ use Rattle.rules.specs.Exact.{Readings, exact_brake_force, exact_train_drag, exa
 use Rattle.rules.specs.Finer.{IsIn}
 use Rattle.rules.specs.Promises.{LawfulApproach}
 use Rattle.rules.proofs.Fractions.{made, at_most, plus, apart}
+
+-- a force of at least 1,000 is a natural number
+pub as_natural : (z : ℤ) → pos 1000 ≤ℤ z → (pos (up z) ≡ z) × (1000 ≤ up z)
+as_natural (pos n) h = (refl, omega (arith, le_out (pos 1000) (pos n) h))
+as_natural (negsuc n) h = absurd (omega (arith, le_out (pos 1000) (negsuc n) h))
 
 -- a value below at the end of a step is under the exact one at each speed of the step
 friction_under : (f : Falling) → LawfulFalling f → (s y : ℕ) → s ≤ y → y ≤ 1600 → f.below y * (f.exact s).den ≤ (f.exact s).num

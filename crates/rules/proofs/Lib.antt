@@ -14,6 +14,7 @@ pub mod Windows
 pub mod Grades
 pub mod Forces
 pub mod Delays
+pub mod Parts
 pub mod Safe
 pub mod Steps
 pub mod Exacts
@@ -25,3 +26,5 @@ pub mod Promised
 pub mod Speeds
 pub mod Examples
 pub mod Tables
+pub mod Leasts
+pub mod Rounded

@@ -1,5 +1,5 @@
 -- Pull tables: the exact pull is a ratio of at most 1,000,000 that never rises with speed.
-use Rattle.std.proofs.Common.{◌≡◌, ℕ, zero, suc, ◌+◌, ◌-◌, ◌*◌, ◌<◌, ◌≤◌, true, cond, ◌&&◌, eqb, ltb, leb, List, [], ◌∷◌, length, get_or, refl, mul-le-mul_right, mul-zero, arith}
+use Rattle.std.proofs.Common.{◌≡◌, ℕ, zero, suc, ◌+◌, ◌-◌, ◌*◌, ◌<◌, ◌≤◌, true, cond, ◌&&◌, eqb, ltb, leb, List, [], ◌∷◌, length, get_or, refl, mul-le-mul_right, mul-zero, add-one, arith}
 use native.Mathlib.Nat.{sub_self}
 use Rattle.std.proofs.lemmas.Bool.{both_ways, ltb-true, ltb-false, leb-true, leb-false, eqb-true, lt-ltb, le-ltb, le-leb, lt-leb, and_parts, cond-false, cond_both}
 use Rattle.rules.specs.declared.figures.PointFigures.{PointFigures}
@@ -145,6 +145,16 @@ module _ (d : PointFigures) where
       rw (step_over p n rest v (omega (arith, speeds_rise n rest (length rest) next.1 (omega arith))))
       (past_after n rest v next.1 h)
 
+  between_after : (p : PointFigures) (rest : List PointFigures) (k v : ℕ) → orderly_after p rest ≡ true → suc k < length (p ∷ rest)
+      → (get_or (p ∷ rest) k d).speed ≤ v → v < (get_or (p ∷ rest) (suc k) d).speed
+      → pull_after p rest v ≡ between_points (get_or (p ∷ rest) k d) (get_or (p ∷ rest) (suc k) d) v
+  between_after p [] k v f h from to = absurd (omega arith)
+  between_after p (n ∷ rest) zero v f h from to = rw (lt-ltb v n.speed to) refl
+  between_after p (n ∷ rest) (suc k) v f h from to =
+      let next = orderly_says p n rest f in
+      rw (step_over p n rest v (omega (arith, speeds_rise n rest k next.1 (omega arith))))
+      (between_after n rest k v next.1 (omega arith) from to)
+
 pub goes_through : (ps : List PointFigures) → lawful_table ps ≡ true → GoesThrough ps
 goes_through [] e = absurd (both_ways _ refl e)
 goes_through (p ∷ rest) e =
@@ -152,6 +162,7 @@ goes_through (p ∷ rest) e =
     let last : length (p ∷ rest) - 1 ≡ length rest = omega arith in
     record {
       at_points = λ k d h. through_after d p rest k falls h;
+      between = λ k v d h from to. rw add-one (between_after d p rest k v falls (omega arith) from (rw add-one at to));
       past_last = λ v d h. past_after d p rest v falls (rw last at h);
     }
 

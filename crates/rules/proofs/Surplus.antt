@@ -18,8 +18,8 @@ use Rattle.rules.proofs.Nearness.{Near, near_sum, near_done, share_allowed}
 use Rattle.rules.proofs.Members.{In}
 use Rattle.rules.proofs.Asked.{answered}
 use Rattle.rules.proofs.Grades.{lowest_proper, lowest_over, lowest_near}
-use Rattle.rules.proofs.Forces.{force_under, force_proper}
-use Rattle.rules.proofs.Safe.{as_natural, delay_under, stops_are_safe}
+use Rattle.rules.proofs.Forces.{as_natural, force_under, force_proper}
+use Rattle.rules.proofs.Safe.{delay_under, stops_are_safe}
 use Rattle.rules.proofs.Steps.{counted}
 use Rattle.rules.proofs.Exacts.{exact_sums_are_finer}
 

@@ -1,6 +1,6 @@
 -- The book: the train, the line and the braking distance, each figure as it was given, and what the calls do in it.
 -- Masses and pressures are in tenths of a tonne, lengths in metres.
-use Rattle.std.specs.Prelude.{◌≡◌, ℕ, zero, suc, ◌+◌, ◌-◌, Bool, true, false, cond, List, [], ◌∷◌, ◌++◌, length, take, ◌==◌, ◌≢◌, slice_index_or}
+use Rattle.std.specs.Prelude.{◌≡◌, ℕ, zero, suc, ◌+◌, ◌-◌, ◌<◌, Bool, true, false, cond, List, [], ◌∷◌, ◌++◌, length, take, ◌==◌, ◌≢◌, slice_index_or}
 use Rattle.rules.specs.declared.figures.VehicleFigures.{VehicleFigures}
 use Rattle.rules.specs.declared.figures.SectionFigures.{SectionFigures}
 use Rattle.rules.specs.Ratio.{ratio, rounded_up}
@@ -105,7 +105,8 @@ mass_per_wagon vs = per_wagon (trailing_mass vs) (wagons vs)
 abbrev pub line_length : List SectionFigures → ℕ
 line_length = sum_of (λ s. s.metres)
 
--- of two trains: no vehicle came or went, and each but vehicle k is as it was
-pub record OnlyBrakeOf (k : ℕ) (old new : List Vehicle) : Type 0 where
+-- of two trains: no vehicle came or went, the brake of vehicle k is in or out, its figures stay, and each other vehicle is as it was
+pub record OnlyBrakeOf (k : ℕ) (on : Bool) (old new : List Vehicle) : Type 0 where
   pub count : length new ≡ length old
+  pub own : (d : Vehicle) → k < length old → slice_index_or new k d ≡ vehicle (slice_index_or old k d).figures on
   pub others : (j : ℕ) (d : Vehicle) → (j ≢ k) → slice_index_or new j d ≡ slice_index_or old j d

@@ -82,3 +82,13 @@ floor x = floored x.num x.den
 -- rounded up: the negative of its negative rounded down
 abbrev pub ceiling : Fraction → ℤ
 ceiling x = neg_ℤ (floored (neg_ℤ x.num) x.den)
+
+-- rounded down a figure is the greatest whole number that is not over it, and rounded up the least that is not under it
+pub record RoundedRight (x : Fraction) : Type 0 where
+  pub under : whole (floor x) ≤F x
+  pub greatest : (z : ℤ) → whole z ≤F x → z ≤ℤ floor x
+  pub over : x ≤F whole (ceiling x)
+  pub least : (z : ℤ) → x ≤F whole z → ceiling x ≤ℤ z
+
+abbrev pub FiguresAreRoundedRight : Type 0
+FiguresAreRoundedRight = (x : Fraction) → Proper x → RoundedRight x

@@ -1,5 +1,5 @@
 -- Histories: what the calls of a sheet do and answer, told by their arguments alone, and what is promised of every run of them.
-use Rattle.std.specs.Prelude.{◌≡◌, ℕ, ◌⊎◌, ⊤, true, List, [], ◌∷◌, All}
+use Rattle.std.specs.Prelude.{◌≡◌, ℕ, ◌⊎◌, ⊤, true, false, List, [], ◌∷◌, All}
 use Rattle.rules.specs.declared.figures.SectionFigures.{SectionFigures}
 use Rattle.rules.specs.declared.figures.StopFigures.{StopFigures}
 use Rattle.rules.specs.declared.figures.VehicleFigures.{VehicleFigures}
@@ -112,8 +112,8 @@ Answers k s b (Mass q) r = (x : ℕ) × (r ≡ hauls x) × IsGreatestMass s b q 
 abbrev pub Granted : Book → Event → Reply → Book → Type 0
 Granted b (couple f) r c = (r ≡ passed) × (c ≡ coupled b f)
 Granted b uncouple r c = (r ≡ passed) × (c ≡ uncoupled b)
-Granted b (cut_out_brake j) r c = (r ≡ passed) × (c ≡ cut_out b j) × OnlyBrakeOf j b.vehicles c.vehicles
-Granted b (restore_brake j) r c = (r ≡ passed) × (c ≡ restored b j) × OnlyBrakeOf j b.vehicles c.vehicles
+Granted b (cut_out_brake j) r c = (r ≡ passed) × (c ≡ cut_out b j) × OnlyBrakeOf j false b.vehicles c.vehicles
+Granted b (restore_brake j) r c = (r ≡ passed) × (c ≡ restored b j) × OnlyBrakeOf j true b.vehicles c.vehicles
 Granted b (append f) r c = (r ≡ passed) × (c ≡ appended b f)
 Granted b lift r c = (r ≡ passed) × (c ≡ lifted b)
 Granted b (set_distance l) r c = (r ≡ passed) × (c ≡ with_distance b l)

@@ -24,3 +24,5 @@ pub mod Figures
 pub mod Printed
 pub mod Given
 pub mod Faults
+pub mod Reasons
+pub mod Worked

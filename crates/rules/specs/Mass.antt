@@ -49,7 +49,7 @@ abbrev pub counted_pull : Engines → ℕ → HaulReadings → Ratio
 counted_pull e coupler r =
     smaller_of (times_ratio (10000 * e.count) r.pull) (whole_ratio (10000 * coupler) +R own_resistance e r)
 
--- it is at least P (w + h) + X (u + h)
+-- the pull that counts is at least P (w + h) + X (u + h), for wagons of the mass X
 abbrev pub balanced : Engines → ℕ → HaulReadings → ℕ → Bool
 balanced e coupler r x = at_most (own_resistance e r +R times_ratio x (r.wagon +R r.grade)) (counted_pull e coupler r)
 

@@ -25,16 +25,16 @@ example_train =
 abbrev pub long_section : ℤ → SectionFigures
 long_section = straight_section 3000
 
--- without a section where the gradient is not lawful
+-- the example train on such a section, and on none where its gradient is not lawful
 abbrev pub example_book : ℤ → Book
 example_book i =
     unless (first_no (appending [] (long_section i))) (appended (book example_train [] 1000) (long_section i)) (book example_train [] 1000)
 
--- its pull table
+-- the pull table of its locomotive
 abbrev pub example_points : List PointFigures
 example_points = record { speed = 0; value = 40000 } ∷ record { speed = 400; value = 20000 } ∷ []
 
--- what it tells, and nine tenths of that
+-- the pull that this table tells, and nine tenths of it
 abbrev pub full_pull : Falling
 full_pull = rounded_falling (table_pull example_points)
 

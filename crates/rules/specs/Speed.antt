@@ -21,7 +21,7 @@ unfoldable pub last_before_failure : (ℕ → Bool) → ℕ → ℕ → ℕ
 last_before_failure ok v zero = v
 last_before_failure ok v (suc n) = cond (ok (v + 50)) (last_before_failure ok (v + 50) n) v
 
--- the last speed before the first one at which a stop is refused
+-- the last speed before the first one at which a stop is refused; 32 steps of 50 lead from rest to 1,600
 unfoldable pub permitted_speed : Kind → Stock → Book → SpeedQuestion → ℕ
 permitted_speed k s b q = last_before_failure (is_answered_at k s b q) 0 32
 

@@ -1,6 +1,6 @@
 -- The stop question: how far a train runs from a place, at a speed, by a factor of full braking, until it stands.
 -- Speeds are in tenths of km/h, forces in milli, distances in millimetres.
-use Rattle.std.specs.Prelude.{ℕ, zero, suc, ◌+◌, ◌-◌, ◌*◌, ◌/◌, ◌<◌, min, max, Bool, true, ◌&&◌, ◌↔◌, List, [], ◌∷◌, map, ℤ, pos, ◌+ℤ◌, int_le}
+use Rattle.std.specs.Prelude.{◌≡◌, ℕ, zero, suc, ◌+◌, ◌-◌, ◌*◌, ◌/◌, ◌<◌, ◌≤◌, min, max, Bool, true, ◌&&◌, ◌↔◌, List, [], ◌∷◌, map, All, Contains, ℤ, pos, ◌+ℤ◌, int_le}
 use Rattle.rules.specs.declared.figures.SectionFigures.{SectionFigures}
 use Rattle.rules.specs.Fraction.{natural_of, fall_of}
 use Rattle.rules.specs.Ratio.{ratio, rounded_down, rounded_up}
@@ -22,7 +22,7 @@ pub record Approach : Type 0 where
   pub reach : ℕ
   pub lowest : ℤ
 
--- the window of a stop from a place, in metres from the start of the line: the sections on which the train has to stand
+-- the window of a stop from a place, in metres from the start of the line: the sections on one of which the train has to come to a stand
 abbrev pub stop_window : Book → ℕ → List SectionFigures
 stop_window b place = window place (place + b.distance) b.sections
 
@@ -50,13 +50,17 @@ train_mass a = a.hauling + a.trailing
 abbrev pub edge : ℕ → ℕ
 edge k = min (100 * k) (250 + 50 * k)
 
--- how many edges lie below v
+-- how many edges lie below v (a difference of numbers is never under 0)
 abbrev pub edges_below : ℕ → ℕ
 edges_below v = max ((v + 99) / 100) ((v - 250 + 49) / 50)
 
 -- the edges rise, and those below v are the lowest `edges_below v`
 abbrev pub EdgesAreCounted : Type 0
 EdgesAreCounted = (v k : ℕ) → (edge k < v ↔ k < edges_below v) × (edge k < edge (k + 1))
+
+-- they are the multiples of 100 up to 500, and from there on each is 50 above the one before
+abbrev pub EdgesAreSpeeds : Type 0
+EdgesAreSpeeds = (k : ℕ) → (k ≤ 5 → edge k ≡ 100 * k) × (5 ≤ k → edge (k + 1) ≡ edge k + 50)
 
 -- from a speed down to the next lower edge
 pub record Step : Type 0 where
@@ -102,6 +106,10 @@ all_hold force (s ∷ ss) = int_le (pos 1000) (force s) && all_hold force ss
 abbrev pub least_of : ℕ → List ℕ → ℕ
 least_of b [] = b
 least_of b (n ∷ ns) = min n (least_of b ns)
+
+-- it is one of them, and none of them is under it
+abbrev pub LeastIsLeast : Type 0
+LeastIsLeast = (b : ℕ) (ns : List ℕ) → Contains (b ∷ ns) (least_of b ns) × All (λ n. least_of b ns ≤ n) (b ∷ ns)
 
 -- m, the smallest of B at the speed asked and every N
 abbrev pub least_force : Approach → ℕ → ℕ

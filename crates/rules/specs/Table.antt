@@ -50,15 +50,17 @@ abbrev pub pull_after : PointFigures → List PointFigures → ℕ → Ratio
 pull_after p [] v = ratio (cond (nat_le v p.speed) p.value 0) 1
 pull_after p (n ∷ rest) v = cond (nat_lt v n.speed) (between_points p n v) (pull_after n rest v)
 
--- from speed 0 on
+-- by a table, from speed 0 on
 abbrev pub table_pull : List PointFigures → ℕ → Ratio
 table_pull [] v = ratio 0 1
 table_pull (p ∷ rest) v = pull_after p rest v
 
--- it goes through its points, and is 0 past the last
+-- it goes through its points, straight from one to the next, and is 0 past the last
 pub record GoesThrough (ps : List PointFigures) : Type 0 where
   pub at_points : (k : ℕ) (d : PointFigures) → k < length ps
       → (table_pull ps (slice_index_or ps k d).speed).num ≡ (slice_index_or ps k d).value * (table_pull ps (slice_index_or ps k d).speed).den
+  pub between : (k v : ℕ) (d : PointFigures) → k + 1 < length ps → (slice_index_or ps k d).speed ≤ v → v < (slice_index_or ps (k + 1) d).speed
+      → table_pull ps v ≡ between_points (slice_index_or ps k d) (slice_index_or ps (k + 1) d) v
   pub past_last : (v : ℕ) (d : PointFigures) → (slice_index_or ps (length ps - 1) d).speed < v → (table_pull ps v).num ≡ 0
 
 abbrev pub TablesGoThroughPoints : Type 0

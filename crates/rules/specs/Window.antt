@@ -1,6 +1,7 @@
 -- The window: the sections that share a point with a stretch of the line.
-use Rattle.std.specs.Prelude.{ℕ, ◌+◌, Bool, cond, ◌&&◌, List, [], ◌∷◌, map, nat_le}
+use Rattle.std.specs.Prelude.{◌≡◌, ℕ, ◌+◌, ◌<◌, ◌≤◌, ◌↔◌, Bool, cond, ◌&&◌, List, [], ◌∷◌, length, map, take, Contains, nat_le, slice_index_or}
 use Rattle.rules.specs.declared.figures.SectionFigures.{SectionFigures}
+use Rattle.rules.specs.Book.{line_length}
 
 -- a section and the place where it begins
 pub record Located : Type 0 where
@@ -20,9 +21,22 @@ abbrev pub those : {X : Type 0} → (X → Bool) → List X → List X
 those p [] = []
 those p (x ∷ xs) = cond (p x) (x ∷ those p xs) (those p xs)
 
--- of a line that begins at `start`, and of one that begins at 0
+-- the sections that do so, of a line that begins at `start`, and of one that begins at 0
 abbrev pub window_from : ℕ → ℕ → ℕ → List SectionFigures → List SectionFigures
 window_from start from to fs = map (λ x. x.section) (those (shares_point from to) (located start fs))
 
 abbrev pub window : ℕ → ℕ → List SectionFigures → List SectionFigures
 window from to fs = window_from 0 from to fs
+
+-- section k of a line is f, and a place lies on it, its ends counted: it begins where those before it end
+pub record LiesOn (fs : List SectionFigures) (k : ℕ) (f : SectionFigures) (place : ℕ) : Type 0 where
+  pub there : k < length fs
+  pub is : slice_index_or fs k f ≡ f
+  pub from : line_length (take k fs) ≤ place
+  pub to : place ≤ line_length (take k fs) + f.metres
+
+-- a window has just those sections on which a place of the stretch lies
+abbrev pub WindowsAreTouched : Type 0
+WindowsAreTouched =
+    (from to : ℕ) (fs : List SectionFigures) (f : SectionFigures) → from ≤ to
+    → Contains (window from to fs) f ↔ ((k : ℕ) × (place : ℕ) × LiesOn fs k f place × (from ≤ place) × (place ≤ to))

@@ -3,15 +3,34 @@ ghost use Rattle.rules.specs.Finer.{StepsFall};
 ghost use Rattle.rules.specs.Examples.{PromisesApply};
 ghost use Rattle.rules.specs.Promises.{ExactSumsAreFiner, StopsAreClose, StopsAreSafe};
 ghost use Rattle.rules.specs.Refusals.{QuestionsDecideOnce};
-ghost use Rattle.rules.specs.Stop.{EdgesAreCounted};
+ghost use Rattle.rules.specs.Stop.{EdgesAreCounted, EdgesAreSpeeds, LeastIsLeast};
+ghost use Rattle.rules.specs.Fraction.{FiguresAreRoundedRight};
+ghost use Rattle.rules.specs.Window.{WindowsAreTouched};
 ghost use Rattle.rules.specs.Table.{TablesGoThroughPoints};
+ghost use Rattle.rules.specs.Worked.{WorkedExamples};
 
-/// The speed edges rise, and `edges_below` counts those below a speed.
+/// The speed edges are 100 apart up to 500 and 50 apart above, and `edges_below` counts those below a speed.
 pub fn edges_are_counted()
-    ensures { EdgesAreCounted }
+    ensures counted { EdgesAreCounted }
+    ensures speeds { EdgesAreSpeeds }
 {}
 
-/// A pull table goes through its points, and past the last of them there is no pull.
+/// A figure rounded down is the greatest whole number that is not over it, and rounded up the least that is not under it.
+pub fn figures_are_rounded_right()
+    ensures { FiguresAreRoundedRight }
+{}
+
+/// A window has just the sections on which a place of its stretch lies.
+pub fn windows_are_touched()
+    ensures { WindowsAreTouched }
+{}
+
+/// The least force is one of the forces that it is taken of, and none of them is under it.
+pub fn least_is_least()
+    ensures { LeastIsLeast }
+{}
+
+/// A pull table goes through its points, straight from one to the next, and past the last of them there is no pull.
 pub fn tables_go_through_points()
     ensures { TablesGoThroughPoints }
 {}
@@ -49,5 +68,6 @@ pub fn promises_apply()
 
 /// Laws, layers, grades and stops have their known values.
 pub fn figures_are_checked()
-    ensures { CheckedFigures }
+    ensures figures { CheckedFigures }
+    ensures examples { WorkedExamples }
 {}

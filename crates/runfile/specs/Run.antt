@@ -27,6 +27,7 @@ questions_of None = []
 abbrev pub run_plan : Plan
 run_plan = first head_sort (first point_sort (first vehicle_sort (first section_sort (first question_sort nothing))))
 
+-- the line under RUN
 abbrev pub head : KindLetter → ℕ → Head
 head k l = record { kind = k; distance = l }
 

@@ -3,7 +3,7 @@ ghost use Rattle.text.specs.Sorts.{Read, Wrong};
 ghost use Rattle.std.specs.Option.{option_to_list};
 ghost use Rattle.runfile.specs.Sorts.{head_sort};
 ghost use Rattle.laws.specs.Kinds.{letter_of};
-ghost use Rattle.text.specs.Numerals.{Reads};
+ghost use Rattle.text.specs.Numerals.{FieldRead};
 
 use laws::KindLetter;
 use rules::{Fault, Refusal};
@@ -19,7 +19,7 @@ pub struct Head {
 
 // The kind of brake with a letter.
 fn kind_of(letter: u8) -> Result<KindLetter, Malformed>
-    ensures { Reads (λ k. letter_of k ≡ letter ∷ []) result }
+    ensures { FieldRead (λ k. letter_of k ≡ letter ∷ []) result }
 {
     match letter {
         b'F' => Ok(KindLetter::F),

@@ -1,7 +1,7 @@
 ghost use Rattle.std.specs.Prelude.{◌≡◌, ◌≤◌, List, [], length, vec_len, vec_capacity, IfOk};
 ghost use Rattle.rules.specs.declared.figures.Question.{Question as Asked};
 ghost use Rattle.runfile.specs.Sorts.{question_sort};
-ghost use Rattle.text.specs.Numerals.{ReadsOn};
+ghost use Rattle.text.specs.Numerals.{LineRead};
 ghost use Rattle.text.specs.Sorts.{Says};
 
 use rules::{Fault, MassQuestion, Question, Refusal, SpeedQuestion, StopQuestion};
@@ -26,7 +26,7 @@ impl Model for QuestionLine {
 
 // The question that a line asks.
 fn question_on(line: u32, text: &[u8]) -> Result<Question, Fault>
-    ensures { ReadsOn line (Says question_sort text.now) result }
+    ensures { LineRead line (Says question_sort text.now) result }
 {
     match text {
         [b'S', b' ', rest @ ..] => {

@@ -12,7 +12,7 @@ use crate::points::{PointLine, Points};
 use crate::questions::{QuestionLine, Questions};
 use crate::sections::SectionLine;
 use crate::vehicles::VehicleLine;
-use history::{Entry, Inquiry, perform};
+use history::{Exchange, Inquiry, perform};
 use laws::KindLetter;
 use pull_table::PullTable;
 use rules::{Fault, Question};
@@ -109,7 +109,7 @@ impl RunFile {
         &mut self,
         sheet: &mut Sheet,
         text: &[u8],
-        calls: &mut [Entry<Q>],
+        calls: &mut [Exchange<Q>],
     ) -> Result<(), Fault>
         ensures { PerformedFrom Q.inquiry text.now calls.old result calls.new self.new sheet.new }
     {

@@ -2,7 +2,7 @@ ghost use Rattle.std.specs.Prelude.{◌≡◌, true, []};
 ghost use Rattle.rules.specs.Book.{Vehicle as BookVehicle, vehicle, book};
 ghost use Rattle.rules.specs.Questions.{lawful_letter};
 ghost use Rattle.runfile.specs.Sorts.{vehicle_sort};
-ghost use Rattle.text.specs.Numerals.{Reads};
+ghost use Rattle.text.specs.Numerals.{FieldRead};
 
 use rules::{Fault, Refusal, VehicleFigures};
 use sheet::Sheet;
@@ -24,7 +24,7 @@ impl Model for VehicleLine {
 
 // The letter of a vehicle, L or W.
 fn vehicle_letter(byte: u8) -> Result<char, Malformed>
-    ensures { Reads (λ letter. (letter ≡ byte) × (lawful_letter byte ≡ true)) result }
+    ensures { FieldRead (λ letter. (letter ≡ byte) × (lawful_letter byte ≡ true)) result }
 {
     match char::from(byte) {
         'L' => Ok('L'),

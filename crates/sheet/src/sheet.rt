@@ -1,4 +1,4 @@
-ghost use Rattle.std.specs.Prelude.{◌≡◌, ◌≤◌, [], length, slice_get, IfOk};
+ghost use Rattle.std.specs.Prelude.{◌≡◌, ◌≤◌, true, false, [], length, slice_get, IfOk};
 ghost use Rattle.rules.specs.Book.{Book, book, new_book, coupled, uncoupled, cut_out, restored, appended, lifted, with_distance, OnlyBrakeOf};
 ghost use Rattle.rules.specs.Questions.{coupling, vehicle_there, appending, setting_distance};
 ghost use Rattle.rules.specs.Refusals.{told, first_no, unless};
@@ -89,7 +89,7 @@ impl Sheet {
     pub fn cut_out(&mut self, k: usize) -> Result<(), Refusal>
         ensures answer { told result ≡ first_no (vehicle_there self.old.vehicles k) }
         ensures held { self.new ≡ unless (told result) (cut_out self.old k) self.old }
-        ensures framed { OnlyBrakeOf k self.old.vehicles self.new.vehicles }
+        ensures framed { OnlyBrakeOf k false self.old.vehicles self.new.vehicles }
     {
         self.consist.set_brake(k, false)
     }
@@ -98,7 +98,7 @@ impl Sheet {
     pub fn restore(&mut self, k: usize) -> Result<(), Refusal>
         ensures answer { told result ≡ first_no (vehicle_there self.old.vehicles k) }
         ensures held { self.new ≡ unless (told result) (restored self.old k) self.old }
-        ensures framed { OnlyBrakeOf k self.old.vehicles self.new.vehicles }
+        ensures framed { OnlyBrakeOf k true self.old.vehicles self.new.vehicles }
     {
         self.consist.set_brake(k, true)
     }

@@ -7,7 +7,7 @@ use Rattle.std.proofs.lemmas.Bool.{cases_lt}
 use Rattle.std.proofs.lemmas.Int.Digits.{digits_value_more, digits_more}
 use Rattle.std.proofs.lemmas.Str.Parse.{numerals_by_value, tells_digits, digit_at, digits_value_short}
 use Rattle.std.proofs.lemmas.Fmt.{length-decimal-le, decimal_digit, first_decimal, decimal_is_IsNumeral, decimal-digits_value}
-use Rattle.text.specs.Numerals.{Numeral, SignedNumeral, Plain, ValueOf, Below, Reads}
+use Rattle.text.specs.Numerals.{Numeral, SignedNumeral, Plain, ValueOf, Below, FieldRead}
 use Rattle.text.specs.declared.malformed.Malformed.{Malformed}
 
 -- a numeral's value fits 64 bits
@@ -70,12 +70,12 @@ numeral_same f m n a b = omega (arith, (numeral_digits f m a).2, (numeral_digits
 pub numeral_plain : (f : List ℕ) (n : ℕ) → Numeral f n → Plain f
 numeral_plain f n h = record { some = (numeral_digits f n h).0; few = numeral_short f n h; lead = numeral_zero f n h }
 
-pub plain_numeral : (f : List ℕ) (r : Result ℕ Malformed) → Plain f → Reads (ValueOf f) r → Reads (Numeral f) r
+pub plain_numeral : (f : List ℕ) (r : Result ℕ Malformed) → Plain f → FieldRead (ValueOf f) r → FieldRead (Numeral f) r
 plain_numeral f (Ok n) plain (ds, e) = rw e (numeral_from_digits f ds plain.some plain.few plain.lead)
 plain_numeral f (Err e) plain none = λ n h. let d = numeral_digits f n h in none n (d.1, sym d.2)
 
 -- after a minus stands the numeral of a number above 0
-pub minus_reads : (f r : List ℕ) (result : Result ℤ Malformed) → f ≡ 45 ∷ r → Reads (Below r) result → Reads (SignedNumeral f) result
+pub minus_reads : (f r : List ℕ) (result : Result ℤ Malformed) → f ≡ 45 ∷ r → FieldRead (Below r) result → FieldRead (SignedNumeral f) result
 minus_reads f r (Ok z) e below = writes f r z e below
   where
     writes : (f r : List ℕ) (z : ℤ) → f ≡ 45 ∷ r → Below r z → SignedNumeral f z

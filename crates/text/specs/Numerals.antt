@@ -37,18 +37,18 @@ abbrev pub Below : List ℕ → ℤ → Type 0
 Below digits z = (n : ℕ) × (0 < n) × Numeral digits n × (z ≡ neg_ℤ (pos n))
 
 -- what was read is what is meant, or there is an error and nothing is meant
-abbrev pub Reads : {X E : Type 0} → (X → Type 0) → Result X E → Type 0
-Reads Means (Ok x) = Means x
-Reads {X = X} Means (Err e) = (x : X) → Means x → ⊥
+abbrev pub FieldRead : {X E : Type 0} → (X → Type 0) → Result X E → Type 0
+FieldRead Means (Ok x) = Means x
+FieldRead {X = X} Means (Err e) = (x : X) → Means x → ⊥
 
 -- a line that is not of its form
 abbrev pub malformed : ℕ → Fault
 malformed line = record { line = line; refusal = MalformedLine }
 
 -- what was read of a line is what is meant, or the line is told as not of its form, and nothing is meant
-abbrev pub ReadsOn : {X : Type 0} → ℕ → (X → Type 0) → Result X Fault → Type 0
-ReadsOn line Means (Ok x) = Means x
-ReadsOn {X = X} line Means (Err f) = (f ≡ malformed line) × ((x : X) → Means x → ⊥)
+abbrev pub LineRead : {X : Type 0} → ℕ → (X → Type 0) → Result X Fault → Type 0
+LineRead line Means (Ok x) = Means x
+LineRead {X = X} line Means (Err f) = (f ≡ malformed line) × ((x : X) → Means x → ⊥)
 
 -- mark does not stand in text
 abbrev pub Lacks : ℕ → List ℕ → Type 0

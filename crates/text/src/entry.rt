@@ -1,5 +1,5 @@
 ghost use Rattle.std.specs.Prelude.{◌≡◌, ℕ, List, [], ◌∷◌, ◌++◌, MatchOption};
-ghost use Rattle.text.specs.Numerals.{ReadsOn};
+ghost use Rattle.text.specs.Numerals.{LineRead};
 ghost use Rattle.text.specs.Sorts.{Sort, Says, NamedBefore, Stored};
 
 use rules::{Fault, Refusal};
@@ -21,7 +21,7 @@ pub trait Entry: Sized {
 
     /// What a line says; else the fault of the line, which is counted from 1.
     fn read(line: u32, text: &[u8]) -> Result<Self, Fault>
-        ensures { ReadsOn line (Says sort text.now) result };
+        ensures { LineRead line (Says sort text.now) result };
 }
 
 /// What holds the entries of one sort.

@@ -1,5 +1,5 @@
 ghost use Rattle.std.specs.Prelude.{◌≡◌, ℕ, List, ℤ, MatchOption, MatchResult};
-ghost use Rattle.text.specs.Numerals.{Reads, ReadsOn, malformed, Lacks, Cut};
+ghost use Rattle.text.specs.Numerals.{FieldRead, LineRead, malformed, Lacks, Cut};
 ghost use Rattle.text.specs.Fields.{Leads, LeadsSigned, Two, Three, flag};
 
 use crate::malformed::Malformed;
@@ -50,7 +50,7 @@ pub fn leading_signed(line: u32, text: &[u8]) -> Result<(i32, &[u8]), Fault>
 
 /// Two numbers, which end a line of a text.
 pub fn pair(line: u32, text: &[u8]) -> Result<(u32, u32), Fault>
-    ensures { ReadsOn line (Two text.now) result }
+    ensures { LineRead line (Two text.now) result }
 {
     let Ok((first, rest)) = leading_number(line, text) else {
         return Err(Malformed::on(line));
@@ -63,7 +63,7 @@ pub fn pair(line: u32, text: &[u8]) -> Result<(u32, u32), Fault>
 
 /// Three numbers, which end a line of a text.
 pub fn triple(line: u32, text: &[u8]) -> Result<(u32, u32, u32), Fault>
-    ensures { ReadsOn line (Three text.now) result }
+    ensures { LineRead line (Three text.now) result }
 {
     let Ok((first, rest)) = leading_number(line, text) else {
         return Err(Malformed::on(line));
@@ -77,7 +77,7 @@ pub fn triple(line: u32, text: &[u8]) -> Result<(u32, u32, u32), Fault>
 /// What a field of 1 or 0 says: 1 is yes.
 #[tactic(auto, using(crate::proofs::Patterns::only_one))]
 pub fn switch(field: &[u8]) -> Result<bool, Malformed>
-    ensures { Reads (λ b. field.now ≡ flag b) result }
+    ensures { FieldRead (λ b. field.now ≡ flag b) result }
 {
     match field {
         [b'0'] => Ok(false),

@@ -1,5 +1,5 @@
 ghost use Rattle.std.specs.Prelude.{◌≤◌, length, MatchBool};
-ghost use Rattle.text.specs.Numerals.{Numeral, SignedNumeral, Plain, ValueOf, Below, Reads};
+ghost use Rattle.text.specs.Numerals.{Numeral, SignedNumeral, Plain, ValueOf, Below, FieldRead};
 
 use crate::malformed::Malformed;
 
@@ -9,7 +9,7 @@ const MOST_DIGITS: usize = 7;
 /// The number that a field writes: 1 to 7 digits without a leading zero.
 #[tactic(auto, using(crate::proofs::Numerals::plain_numeral, crate::proofs::Numerals::numeral_plain))]
 pub fn number(field: &[u8]) -> Result<u32, Malformed>
-    ensures { Reads (Numeral field.now) result }
+    ensures { FieldRead (Numeral field.now) result }
 {
     if !is_plain(field) {
         return Err(Malformed);
@@ -19,7 +19,7 @@ pub fn number(field: &[u8]) -> Result<u32, Malformed>
 
 /// The number that a field writes, with a minus before the digits of one below 0.
 pub fn signed_number(field: &[u8]) -> Result<i32, Malformed>
-    ensures { Reads (SignedNumeral field.now) result }
+    ensures { FieldRead (SignedNumeral field.now) result }
 {
     let [b'-', digits @ ..] = field else {
         let Ok(n) = number(field) else {
@@ -33,7 +33,7 @@ pub fn signed_number(field: &[u8]) -> Result<i32, Malformed>
 // The number below 0 that these digits write after a minus.
 #[tactic(auto, using(crate::proofs::Numerals::numeral_same))]
 fn negative(digits: &[u8]) -> Result<i32, Malformed>
-    ensures { Reads (Below digits.now) result }
+    ensures { FieldRead (Below digits.now) result }
 {
     let Ok(n) = number(digits) else {
         return Err(Malformed);
@@ -55,7 +55,7 @@ fn is_plain(field: &[u8]) -> bool
 // The value of digits, with or without leading zeros.
 fn value_of(digits: &[u8]) -> Result<u32, Malformed>
     requires { length digits.now ≤ 7 }
-    ensures { Reads (ValueOf digits.now) result }
+    ensures { FieldRead (ValueOf digits.now) result }
 {
     let mut n: u32 = 0;
     for b in digits {

@@ -1,8 +1,9 @@
--- One vehicle more in the sums over a train.
+-- The sums over a train, vehicle by vehicle.
 use Rattle.std.specs.Prelude.{◌≡◌, ◌+◌, cond}
 use Rattle.rules.specs.Book.{Vehicle, is_locomotive}
 use Rattle.train.specs.declared.totals.Totals.{Totals}
 
+-- the sums over no vehicle
 pub record Empty (t : Totals) : Type 0 where
   pub locomotives : t.locomotives ≡ 0
   pub wagons : t.wagons ≡ 0
@@ -10,6 +11,7 @@ pub record Empty (t : Totals) : Type 0 where
   pub trailing : t.trailing ≡ 0
   pub pressure : t.pressure ≡ 0
 
+-- the sums with one vehicle more
 pub record Adds (v : Vehicle) (old new : Totals) : Type 0 where
   pub locomotives : new.locomotives ≡ old.locomotives + cond (is_locomotive v) 1 0
   pub wagons : new.wagons ≡ old.wagons + cond (is_locomotive v) 0 1

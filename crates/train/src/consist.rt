@@ -94,7 +94,7 @@ impl Consist {
     pub fn set_brake(&mut self, k: usize, on: bool) -> Result<(), Refusal>
         ensures answer { told result ≡ first_no (vehicle_there self.old k) }
         ensures held { self.new ≡ unless (told result) (with_brake on self.old k) self.old }
-        ensures framed { OnlyBrakeOf k self.old self.new }
+        ensures framed { OnlyBrakeOf k on self.old self.new }
     {
         let Some(vehicle) = self.vehicles.get_mut(k) else {
             return Err(Refusal::NoSuchVehicle);

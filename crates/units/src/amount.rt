@@ -79,15 +79,25 @@ impl Milli {
         if whole == 0 {
             return Milli::new(0);
         }
-        let sum = weighed(mass, self) + weighed(beside, other);
+        let sum = u128::from(self.on_mass(mass)) + u128::from(other.on_mass(beside));
         Milli::new((sum / u128::from(whole)) as u32)
+    }
+
+    /// The force on a mass in tenths of a tonne, in ten-thousandths of kgf.
+    pub fn on_mass(self, mass: u32) -> u64
+        ensures value { result ≡ mass * self }
+        ensures bound { result ≤ 4294967295 * mass }
+    {
+        u64::from(mass) * u64::from(self.count())
     }
 }
 
-// A specific force times the mass that it acts on.
-fn weighed(mass: u32, force: Milli) -> u128
-    ensures value { result ≡ mass * force }
-    ensures small { result ≤ 4294967295 * mass }
-{
-    u128::from(mass) * u128::from(force.count())
+impl Kgf {
+    /// The force in ten-thousandths of kgf.
+    pub fn ten_thousandths(self) -> u64
+        ensures value { result ≡ 10000 * self }
+        ensures bound { result ≤ 10000 * 4294967295 }
+    {
+        10_000 * u64::from(self.count())
+    }
 }

@@ -1,5 +1,5 @@
-use Rattle.history.proofs.Entries.{Kept}
+use Rattle.history.proofs.Exchanges.{Kept}
 use Rattle.history.proofs.histories.perform.Given as goal
 
-abbrev pub invariant-loop-entry : goal.invariant-loop-entry
-invariant-loop-entry g l = Kept g.Q.Inquiry.inquiry l.initial.sheet l.initial.calls l.entry-index l.calls l.sheet
+abbrev pub invariant-loop-exchange : goal.invariant-loop-exchange
+invariant-loop-exchange g l = Kept g.Q.Inquiry.inquiry l.initial.sheet l.initial.calls l.exchange-index l.calls l.sheet

@@ -6,19 +6,19 @@ use Rattle.rules.specs.Book.{Book}
 use Rattle.rules.specs.History.{Inquiry, Event, reply, next, replies, after, Run}
 use Rattle.rules.specs.Refusals.{Reply as Told}
 use Rattle.rules.proofs.Histories.{replies_more, after_more, run_more}
-use Rattle.history.specs.Calls.{event_of, events_of, told_beside, EntryPerformed, AllPerformed}
+use Rattle.history.specs.Calls.{event_of, events_of, told_beside, ExchangePerformed, AllPerformed}
 use Rattle.history.specs.declared.call.Call.{Call}
-use Rattle.history.specs.declared.call.Entry.{Entry}
+use Rattle.history.specs.declared.call.Exchange.{Exchange}
 
 map-map : {X Y Z : Type 0} (f : X → Y) (g : Y → Z) (xs : List X) → map g (map f xs) ≡ map (λ x. g (f x)) xs
 map-map f g [] = refl
 map-map f g (x ∷ xs) = ap (λ t. g (f x) ∷ t) (map-map f g xs)
 
-module _ {Q : Type 0} (inquiry : Q → Inquiry) (b : Book) (old : List (Entry Q)) where
-  abbrev call : Entry Q → Call Q
+module _ {Q : Type 0} (inquiry : Q → Inquiry) (b : Book) (old : List (Exchange Q)) where
+  abbrev call : Exchange Q → Call Q
   call e = e.call
 
-  abbrev event : Entry Q → Event
+  abbrev event : Exchange Q → Event
   event e = event_of inquiry e.call
 
   -- the events of the first i calls
@@ -26,7 +26,7 @@ module _ {Q : Type 0} (inquiry : Q → Inquiry) (b : Book) (old : List (Entry Q)
   first i = take i (events_of inquiry old)
 
   -- the first i calls are performed, and the book is c
-  pub record Kept (i : ℕ) (now : List (Entry Q)) (c : Book) : Type 0 where
+  pub record Kept (i : ℕ) (now : List (Exchange Q)) (c : Book) : Type 0 where
     pub same : map call now ≡ map call old
     pub beside : map told_beside (take i now) ≡ map Some (replies b (first i))
     pub held : c ≡ after b (first i)
@@ -35,7 +35,7 @@ module _ {Q : Type 0} (inquiry : Q → Inquiry) (b : Book) (old : List (Entry Q)
   pub begins : Kept 0 old b
   begins = record { same = refl; beside = refl; held = refl; run = refl }
 
-  module _ (i : ℕ) (now : List (Entry Q)) (c : Book) (kept : Kept i now c) where
+  module _ (i : ℕ) (now : List (Exchange Q)) (c : Book) (kept : Kept i now c) where
     same_events : events_of inquiry now ≡ events_of inquiry old
     same_events = sym (map-map call (event_of inquiry) now) ∙ ap (map (event_of inquiry)) kept.same ∙ map-map call (event_of inquiry) old
 
@@ -43,8 +43,8 @@ module _ {Q : Type 0} (inquiry : Q → Inquiry) (b : Book) (old : List (Entry Q)
     counted = sym (length-map now call) ∙ ap length kept.same ∙ length-map old call
 
     -- one call more
-    module _ (other y : Entry Q) (d : Book) (before : i < length old) (made : EntryPerformed inquiry c (get_or now i other) y d) where
-      abbrev x : Entry Q
+    module _ (other y : Exchange Q) (d : Book) (before : i < length old) (made : ExchangePerformed inquiry c (get_or now i other) y d) where
+      abbrev x : Exchange Q
       x = get_or now i other
 
       lt : i < length now
