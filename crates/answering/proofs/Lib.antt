@@ -1,2 +1,3 @@
+mod Alone
 mod Inputs
 mod Turns

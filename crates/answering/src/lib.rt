@@ -6,7 +6,9 @@ mod output;
 pub mod program;
 pub mod reckoner;
 pub mod theorems;
+pub mod unanswered;
 
 pub use equipment::Equipment;
 pub use program::{answer_input, run};
 pub use reckoner::Reckoner;
+pub use unanswered::Unanswered;
