@@ -98,37 +98,25 @@ def by_proof(copy, crate, known, jobs):
     return {name: said.get(name, (BAD, "not tried")) for name in known}
 
 
-def goes_as_ever(folder, jobs):
-    """Whether a program prints what it should, or tests pass: None where they do, else what happened."""
-    if (folder / "stdout").exists():
-        args = (folder / "args").read_text().splitlines() if (folder / "args").exists() else []
-        with open(folder / "stdin" if (folder / "stdin").exists() else os.devnull, "rb") as stdin:
-            ran = rt(["run", "--jobs", str(jobs), *(["--", *args] if args else [])], folder, jobs, stdin)
-        status = int((folder / "status").read_text()) if (folder / "status").exists() else 0
-        if ran.returncode == status and ran.stdout == (folder / "stdout").read_bytes():
-            return None
-        words = "prints something else"
-    else:
-        ran = rt(["test", "--jobs", str(jobs)], folder, jobs)
-        if ran.returncode == 0:
-            return None
-        words = "fails"
-    told = ran.stderr + (b"" if (folder / "stdout").exists() else ran.stdout)
-    told = told.decode(errors="replace")
-    if re.search(r"\berror\[[\w-]+\]", told):
-        return BAD, f"{folder.name} does not compile"
-    if "logic=not-proved" in told:
-        at = re.search(r"^(?:note: )?(?:\./)?((?:src|specs|proofs)/\S+?:\d+):\d+:", told, re.M)
-        return "proof", f"{folder.name} is not proved" + (f", first at {at[1]}" if at else "")
-    if ran.returncode in (2, 3) and not ran.stdout:
-        return BAD, f"{folder.name}: rt says nothing of it"
-    return "run", f"{folder.name} {words}"
+def run(folder, jobs):
+    """What a program prints, or its tests say, where that is otherwise than it should be; else None."""
+    is_program = (folder / "stdout").exists()
+    args = (folder / "args").read_text().splitlines() if (folder / "args").exists() else []
+    with open(folder / "stdin" if (folder / "stdin").exists() else os.devnull, "rb") as stdin:
+        ran = rt(["try", *(["--", *args] if args else [])] if is_program else ["try", "--test"], folder, jobs, stdin)
+    told = ran.stderr.decode(errors="replace").strip().split("\n")
+    if "run=none" in told[-1]:
+        first = next((it for it in told if re.search(r"\berror\b", it)), told[-1])
+        return BAD, f"{folder.name} is not run: {first[:150]}"
+    status = int((folder / "status").read_text()) if (folder / "status").exists() else 0
+    if ran.returncode == status and (not is_program or ran.stdout == (folder / "stdout").read_bytes()):
+        return None
+    return RUN, f"{folder.name} " + ("fails its tests" if not is_program else "stops" if "run=ended" not in told[-1] else "prints something else")
 
 
 def by_run(copy, crate, edit, every, jobs):
     """What the tests of a crate, and the programs and tests above it, say of a bug."""
-    folder = copy / "crates" / crate
-    texts = applied(folder, edit)
+    texts = applied(copy / "crates" / crate, edit)
     if not texts:
         return BAD, "cannot be applied"
     was = {path: path.read_text() for path in texts}
@@ -137,12 +125,9 @@ def by_run(copy, crate, edit, every, jobs):
             path.write_text(text)
         for name in [crate, *(it for it, below in every.items() if crate in below)]:
             at = copy / "crates" / name
-            said = goes_as_ever(at, jobs) if (at / "stdout").exists() or has(at, ["#[test]"]) else None
-            if not said:
-                continue
-            if said[0] == "proof":
-                return (SRC if "first at src/" in said[1] else PROOF) if name == crate else RUN, said[1]
-            return RUN if said[0] == "run" else said[0], said[1]
+            said = run(at, jobs) if (at / "stdout").exists() or has(at, ["#[test]"]) else None
+            if said:
+                return said
         return NONE, ""
     finally:
         for path, text in was.items():
