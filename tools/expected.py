@@ -8,6 +8,7 @@
     tools/expected.py makers     | diff - crates/makers/stdout
     tools/expected.py mixtures   | diff - crates/mixtures/stdout
 """
+import os
 import sys
 from fractions import Fraction as F
 from functools import cache
@@ -219,11 +220,25 @@ class Sheet:
         return distance, least, steps, steps + 1 + ceil(F(slack * distance, least))
 
 
+def reasons():
+    """The reason of each refusal, as docs/REFUSALS.md has it."""
+    with open(os.path.join(os.path.dirname(__file__), "..", "docs", "REFUSALS.md")) as page:
+        rows = page.read().split("| Number | Reason |\n|---|---|\n")[1].split("\n\n")[0].splitlines()
+    return {int(number): reason for number, reason in (row.strip("| ").split(" | ") for row in rows)}
+
+
+REASONS = reasons()
+
+
+def refusal(number):
+    return f"refused {number}: {REASONS[number]}"
+
+
 def outcome(f, *args):
     try:
         r = f(*args)
     except Refused as e:
-        return f"refused {e.args[0]}"
+        return refusal(e.args[0])
     if not isinstance(r, tuple):
         return "passed"
     figures = f"{r[0]} mm, least force {r[1]}, steps {r[2]}"
@@ -249,7 +264,7 @@ def answer(what, f, *args):
     try:
         return f"up to {what}{f(*args)}"
     except Refused as e:
-        return f"refused {e.args[0]}"
+        return refusal(e.args[0])
 
 
 def inspection():
@@ -510,10 +525,10 @@ def figures():
     tell("a stop from 1600", sample(0).stop, "F", 0, 1600, 10)
     pull = scale(table([(0, 40_000), (400, 20_000)]), 90)
     tell("a mass past the last point of the table", sample(0).mass, 401, 600, (pull, df4, wagon_drag))
-    print("a layer of 101 hundredths: refused 14")
-    print("a run file in small letters: refused 15")
-    print("a run file of two runs: refused 16")
-    print("a line into 63 bytes: refused 17")
+    print(f"a layer of 101 hundredths: {refusal(14)}")
+    print(f"a run file in small letters: line 1 of the run file: {refusal(15)}")
+    print(f"a run file of two runs: line 1 of the run file: {refusal(16)}")
+    print(f"a line into 63 bytes: {refusal(17)}")
 
 
 # ---- the program `readings`

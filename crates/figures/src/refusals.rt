@@ -110,8 +110,9 @@ fn files(rt: &HostRuntime) -> io::Result<()> {
         ("a run file in small letters", b"run 1\n"),
         ("a run file of two runs", b"RUN 2\n"),
     ] {
-        let read = file.read(&mut sheet, text).map_err(|fault| fault.refusal);
-        tell(rt, label, Outcome::of(read))?;
+        if let Err(fault) = file.read(&mut sheet, text) {
+            println!(rt; "{label}: {fault}")?;
+        }
     }
     Ok(())
 }

@@ -4,7 +4,7 @@ use Rattle.laws.specs.Kinds.{letter_of}
 use Rattle.laws.specs.declared.kind.KindLetter.{KindLetter}
 use Rattle.rules.specs.declared.figures.Question.{Question}
 use Rattle.rules.specs.Printed.{vehicle_text, section_text, stop_text, question_text}
-use Rattle.rules.specs.Refusals.{refusal_text}
+use Rattle.rules.specs.Reasons.{refusal_text}
 use Rattle.history.specs.declared.call.Call.{Call}
 use Rattle.history.specs.declared.call.Call.TheVariants.{Couple, Uncouple, CutOut, Restore, Append, Lift, SetDistance, Ask}
 use Rattle.history.specs.declared.reply.Reply.{Reply}

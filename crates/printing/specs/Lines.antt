@@ -4,7 +4,7 @@ use Rattle.rules.specs.declared.refusal.Refusal.{Refusal}
 use Rattle.rules.specs.declared.fault.Fault.{Fault}
 use Rattle.rules.specs.Refusals.{Reply, passed, stops, runs, hauls, refused, number_of}
 use Rattle.rules.specs.Printed.{◌then◌}
-use Rattle.rules.specs.Faults.{fault_text}
+use Rattle.rules.specs.Faults.{layer_of, layer_text}
 
 -- OK and the figures of the answer, or NO and the number of the refusal
 abbrev pub outcome : Reply → List ℕ
@@ -22,8 +22,13 @@ line text = text ++ 10 ∷ []
 abbrev pub reply_line : ℕ → Reply → List ℕ
 reply_line question r = line (decimal question then outcome r)
 
+-- FAULT, what is at fault, the line and the number of the refusal
+unfoldable pub fault_told : Fault → List ℕ
+fault_told f =
+    codes "FAULT " ++ (layer_text (layer_of f.refusal) ++ (codes " " ++ (decimal f.line ++ (codes " " ++ decimal (number_of f.refusal)))))
+
 abbrev pub fault_line : Fault → List ℕ
-fault_line f = line (fault_text f)
+fault_line f = line (fault_told f)
 
 -- a line in a buffer of at least 64 bytes: its length is answered, and the bytes past it are as before; a shorter buffer is refused
 -- with 17, and is as before

@@ -1,6 +1,6 @@
 ghost use Rattle.std.specs.Prelude.{◌+◌, ◌≤◌, ◌++◌, length, codes, IfOk};
-ghost use Rattle.rules.specs.Faults.{fault_text, layer_text};
-ghost use Rattle.printing.specs.Lines.{Printed, fault_line};
+ghost use Rattle.rules.specs.Faults.{layer_text};
+ghost use Rattle.printing.specs.Lines.{Printed, fault_line, fault_told};
 ghost use Rattle.printing.specs.Puts.{Puts};
 
 use crate::put::{ROOM, put_bytes, put_figure};
@@ -31,10 +31,10 @@ fn put_line(out: &mut [u8], fault: Fault) -> usize
 }
 
 // Puts all of the line but its end.
-#[tactic(auto, using(crate::proofs::Puts::three_joined), unfolding(rules::specs::Faults::fault_text))]
+#[tactic(auto, using(crate::proofs::Puts::three_joined), unfolding(crate::specs::Lines::fault_told))]
 fn put_fault(out: &mut [u8], fault: Fault) -> usize
     requires { 33 ≤ length out.old }
-    ensures put { Puts (fault_text fault) 0 out.old result out.new }
+    ensures put { Puts (fault_told fault) 0 out.old result out.new }
     ensures short { result ≤ 33 }
 {
     let at = put_layer(out, 0, fault.layer());

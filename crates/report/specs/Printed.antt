@@ -1,7 +1,7 @@
 -- What is printed of an outcome, and of an allowance.
 use Rattle.std.specs.Prelude.{ℕ, List, [], ◌++◌, Some, None, Ok, Err, Option, Result, codes, decimal}
 use Rattle.rules.specs.declared.refusal.Refusal.{Refusal}
-use Rattle.rules.specs.Refusals.{refusal_text}
+use Rattle.rules.specs.Reasons.{refusal_text}
 
 abbrev pub outcome_text : {T : Type 0} → (T → Option (List ℕ)) → Result T Refusal → Option (List ℕ)
 outcome_text answer (Ok x) = answer x

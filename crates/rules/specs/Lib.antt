@@ -24,3 +24,4 @@ pub mod Figures
 pub mod Printed
 pub mod Given
 pub mod Faults
+pub mod Reasons

@@ -1,5 +1,5 @@
 -- The number by which each refusal is told, and how numbered questions decide.
-use Rattle.std.specs.Prelude.{◌≡◌, ℕ, ◌⊎◌, Bool, true, false, cond, List, [], ◌∷◌, ◌++◌, All, Some, None, Ok, Err, codes, decimal, Option, Result}
+use Rattle.std.specs.Prelude.{◌≡◌, ℕ, ◌⊎◌, Bool, true, false, cond, List, [], ◌∷◌, All, Some, None, Ok, Err, Option, Result}
 use Rattle.rules.specs.declared.refusal.Refusal.{Refusal}
 use Rattle.rules.specs.declared.refusal.Refusal.TheVariants.{UnlawfulVehicle, TrainFull, NoSuchVehicle, UnlawfulSection, LineFull, UnlawfulBrakingDistance, QuestionOutOfRange, NoLocomotive, LineTooShort, WeakBrake, WeakStep, StopsTooFar, HaulsNothing, UnlawfulLaw, MalformedLine, WrongCount, ShortBuffer}
 
@@ -95,7 +95,3 @@ speed_reply = reply_of runs
 
 abbrev pub mass_reply : Result ℕ Refusal → Reply
 mass_reply = reply_of hauls
-
--- what is printed of a refusal
-abbrev pub refusal_text : Refusal → List ℕ
-refusal_text e = codes "refused " ++ decimal (number_of e)

@@ -1,5 +1,6 @@
 ghost use Rattle.std.specs.Prelude.{◌≡◌, Some};
-ghost use Rattle.rules.specs.Faults.{layer_of, layer_text, fault_text};
+ghost use Rattle.rules.specs.Faults.{layer_of, layer_text};
+ghost use Rattle.rules.specs.Reasons.{fault_text};
 
 use crate::refusal::Refusal;
 use std::error::Error;
@@ -48,11 +49,9 @@ impl Fault {
 impl fmt::Display for Fault {
     ghost output = { λ x. Some (fault_text x) };
 
-    #[tactic(auto, unfolding(crate::specs::Faults::fault_text))]
+    #[tactic(auto, unfolding(crate::specs::Reasons::fault_text))]
     fn fmt<W: fmt::Write>(&self, f: &mut fmt::Formatter<W>) -> fmt::Result {
-        let layer = self.layer();
-        let number = self.refusal.number();
-        write!(f, "FAULT {layer} {} {number}", self.line)
+        write!(f, "line {} of the run file: {}", self.line, self.refusal)
     }
 }
 

@@ -1,5 +1,6 @@
 ghost use Rattle.std.specs.Prelude.{◌≡◌, Some};
-ghost use Rattle.rules.specs.Refusals.{number_of, refusal_text};
+ghost use Rattle.rules.specs.Refusals.{number_of};
+ghost use Rattle.rules.specs.Reasons.{reason as reason_of, refusal_text};
 
 use std::error::Error;
 use std::fmt;
@@ -51,14 +52,43 @@ impl Refusal {
     {
         self as u32
     }
+
+    /// Why the call is refused, in words.
+    #[tactic(auto, unfolding(crate::specs::Reasons::reason))]
+    pub fn reason(self) -> &'static str
+        ensures { result.now ≡ reason_of self }
+    {
+        match self {
+            Refusal::UnlawfulVehicle => "the letter, mass or pressure of a vehicle is out of range",
+            Refusal::TrainFull => "the train has 120 vehicles already",
+            Refusal::NoSuchVehicle => "the train has no such vehicle",
+            Refusal::UnlawfulSection => "a figure of a section is out of range",
+            Refusal::LineFull => "the line has 200 sections already",
+            Refusal::UnlawfulBrakingDistance => "the braking distance is not 400 to 4000 m",
+            Refusal::QuestionOutOfRange => "a figure of the question is out of range",
+            Refusal::NoLocomotive => "the train has no locomotive",
+            Refusal::LineTooShort => "the line ends before the braking distance, or has no section",
+            Refusal::WeakBrake => "the brake force is under 1 kgf/t",
+            Refusal::WeakStep => "in some step the train is held back by less than 1 kgf/t",
+            Refusal::StopsTooFar => "the train does not stop within the braking distance",
+            Refusal::HaulsNothing => "the locomotives do not haul 50 t",
+            Refusal::UnlawfulLaw =>
+                "a figure of a law, a layer or a pull table is out of range or order",
+            Refusal::MalformedLine => "the line is not of its form",
+            Refusal::WrongCount =>
+                "a count is out of its limits, a line is missing or left over, or the file is too long",
+            Refusal::ShortBuffer => "the buffer has fewer than 64 bytes",
+        }
+    }
 }
 
+// The number, and the reason in words.
 impl fmt::Display for Refusal {
     ghost output = { λ x. Some (refusal_text x) };
 
+    #[tactic(auto, unfolding(crate::specs::Reasons::refusal_text))]
     fn fmt<W: fmt::Write>(&self, f: &mut fmt::Formatter<W>) -> fmt::Result {
-        let number = self.number();
-        write!(f, "refused {number}")
+        write!(f, "refused {}: {}", self.number(), self.reason())
     }
 }
 
