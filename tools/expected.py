@@ -564,7 +564,7 @@ def readings():
     read("90 hundredths of the table", share, [0, 1, 200, 400])
     least = lesser(share, adhesion(1000))
     read("the lesser of that and adhesion", least, [0, 50, 200, 300])
-    read("that and adhesion 100 to 1", blend(least, adhesion(1000), 100, 1), [0, 50, 201])
+    read("that and adhesion 100 to 1", blend(least, adhesion(1000), 100, 1), [0, 201, 300])
 
     print("drags at a speed and a mass per wagon, below and above")
     read("wagon drag", wagon_drag, [(500, 600), (0, 50), (1600, 2000)])

@@ -86,7 +86,7 @@ pub fn layers(rt: &HostRuntime) -> io::Result<()> {
                 rt,
                 "that and adhesion 100 to 1",
                 &mixed,
-                &[0, 50, 201].map(|tenths| Speed::from_tenths(tenths)),
+                &[0, 201, 300].map(|tenths| Speed::from_tenths(tenths)),
             )?;
         }
     }
