@@ -33,8 +33,10 @@ def crates():
 
 def bugs(crate):
     """The bugs of a crate's list by name: what is wrong, and the lines of the edit."""
-    found = {}
-    for line in (TOP / "tools/bugs" / f"{crate}.txt").read_text().splitlines():
+    found, path = {}, TOP / "tools/bugs" / f"{crate}.txt"
+    if not path.exists():
+        sys.exit(f"{crate} has no list {path}")
+    for line in path.read_text().splitlines():
         if line.startswith("bug: "):
             name, _, wrong = line[5:].partition(", ")
             if name in found or not re.fullmatch(r"\w+", name) or not wrong:
@@ -90,7 +92,7 @@ def by_proof(copy, crate, known, jobs):
         at = re.search(r"(?:note: )?(?:\./)?((?:src|specs|proofs)/\S+?:\d+):\d+:", words)
         where = at[1] if at else ""
         if words.startswith("refused, as it must be"):
-            said[name] = (SRC if where.startswith("src/") else PROOF, where or words[:150])
+            said[name] = (SRC if where.startswith("src/") else PROOF, where or "no place is told")
         elif words.startswith("NOT REFUSED"):
             said[name] = (NONE, "")
         else:
