@@ -65,7 +65,10 @@ impl Line {
 impl Reckoner {
     /// A reckoner, or none where there is no memory for one.
     pub fn new() -> Option<Reckoner> {
-        let mut handle = Handle { made: false, at: ptr::null_mut() };
+        let mut handle = Handle {
+            made: false,
+            at: ptr::null_mut(),
+        };
         unsafe { zetampuy_new(&mut handle) }.then_some(Reckoner(handle))
     }
 
@@ -79,7 +82,14 @@ impl Reckoner {
     pub fn answer(&mut self, text: &[u8], number: u32) -> Option<Line> {
         let mut out = [0; ROOM];
         let told = unsafe {
-            zetampuy_answer(&mut self.0, text.as_ptr(), text.len(), number, out.as_mut_ptr(), ROOM)
+            zetampuy_answer(
+                &mut self.0,
+                text.as_ptr(),
+                text.len(),
+                number,
+                out.as_mut_ptr(),
+                ROOM,
+            )
         };
         Line::of(out, told)
     }
@@ -88,7 +98,13 @@ impl Reckoner {
     pub fn fault(&mut self, text: &[u8]) -> Option<Line> {
         let mut out = [0; ROOM];
         let told = unsafe {
-            zetampuy_fault(&mut self.0, text.as_ptr(), text.len(), out.as_mut_ptr(), ROOM)
+            zetampuy_fault(
+                &mut self.0,
+                text.as_ptr(),
+                text.len(),
+                out.as_mut_ptr(),
+                ROOM,
+            )
         };
         Line::of(out, told)
     }

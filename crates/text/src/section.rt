@@ -9,7 +9,7 @@ use rules::{Fault, Refusal};
 
 impl<'a> Text<'a> {
     /// Reads a section into a store that is cleared first: a heading, and as many entries as it tells. The first line at fault
-    /// ends the reading.
+    /// ends the reading; whoever reads on or keeps the store then starts both anew.
     pub fn section<X: Entry, D: Store<X>>(&mut self, into: &mut D) -> Result<(), Fault>
         ensures read { MatchResult result
             (λ _. Read X.sort self.old.rest (D.held into.new) self.new.rest

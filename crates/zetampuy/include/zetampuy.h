@@ -34,7 +34,7 @@ typedef struct {
 #define ZETAMPUY_SHORT_BUFFER (-17)
 
 /* Returned where the handle has no reckoner. */
-#define ZETAMPUY_NO_RECKONER (-18)
+#define ZETAMPUY_NO_RECKONER (-100)
 
 /*
  * Makes a reckoner, and frees the one that the handle has, if any. False: there was no memory, and the handle has none. This is
@@ -50,7 +50,7 @@ void zetampuy_free(zetampuy_handle *handle);
  *
  *   0 to 200      so many
  *   -1 to -16     the text is no run file: the number of its fault, below 0
- *   -18           there is no reckoner
+ *   -100          there is no reckoner
  */
 int32_t zetampuy_questions(zetampuy_handle *handle, const uint8_t *text, size_t length);
 
@@ -62,7 +62,7 @@ int32_t zetampuy_questions(zetampuy_handle *handle, const uint8_t *text, size_t 
  *   0             the file asks no question of this number
  *   -1 to -16     the text is no run file: the number of its fault, below 0
  *   -17           the buffer has fewer than 64 bytes; the text was not read
- *   -18           there is no reckoner
+ *   -100          there is no reckoner
  */
 int32_t zetampuy_answer(zetampuy_handle *handle, const uint8_t *text, size_t length, uint32_t number, uint8_t *out, size_t room);
 
@@ -73,7 +73,7 @@ int32_t zetampuy_answer(zetampuy_handle *handle, const uint8_t *text, size_t len
  *   1 to 64       the line has so many bytes
  *   0             the text is a run file, and has no fault
  *   -17           the buffer has fewer than 64 bytes; the text was not read
- *   -18           there is no reckoner
+ *   -100          there is no reckoner
  */
 int32_t zetampuy_fault(zetampuy_handle *handle, const uint8_t *text, size_t length, uint8_t *out, size_t room);
 

@@ -21,7 +21,7 @@ refusal_code e = neg_ℤ (pos (number_of e))
 
 -- there is no reckoner
 abbrev pub no_reckoner : ℤ
-no_reckoner = neg_ℤ (pos 18)
+no_reckoner = neg_ℤ (pos 100)
 
 -- the length of the line; 0 where no such question is asked; or the number of the fault or of the refusal, below 0
 abbrev pub answer_code : Result ℕ Unanswered → ℤ

@@ -5,7 +5,7 @@ use answering::Unanswered;
 use rules::{Fault, Refusal};
 
 // What is returned where there is no reckoner.
-pub(crate) const NO_RECKONER: i32 = -18;
+pub(crate) const NO_RECKONER: i32 = -100;
 
 // The number of a refusal, below 0.
 fn refusal(refusal: Refusal) -> i32
