@@ -92,7 +92,7 @@ def by_proof(copy, crate, known, jobs):
         at = re.search(r"(?:note: )?(?:\./)?((?:src|specs|proofs)/\S+?:\d+):\d+:", words)
         where = at[1] if at else ""
         if words.startswith("refused, as it must be"):
-            said[name] = (SRC if where.startswith("src/") else PROOF, where or "no place is told")
+            said[name] = (SRC if where.startswith("src/") else PROOF if where else BAD, where or "refused for its form, at no place")
         elif words.startswith("NOT REFUSED"):
             said[name] = (NONE, "")
         else:
