@@ -3,7 +3,7 @@ use Rattle.std.specs.Prelude.{◌≡◌, ℕ, ◌-◌, ◌<◌, ◌≤◌, ◌�
 use Rattle.rules.specs.declared.fault.Fault.{Fault}
 use Rattle.rules.specs.declared.figures.PointFigures.{PointFigures}
 use Rattle.rules.specs.declared.refusal.Refusal.{Refusal}
-use Rattle.rules.specs.Book.{Book}
+use Rattle.rules.specs.Book.{Book, new_book}
 use Rattle.rules.specs.History.{Event, replies, Performed, History}
 use Rattle.rules.specs.Law.{Stock}
 use Rattle.rules.specs.Refusals.{Reply, number_of}
@@ -34,6 +34,12 @@ Heads line before k after = (k ≡ length line) × (k ≤ 64) × (after ≡ line
 -- one call performed on the book, which stays, and the line of its reply at the head of a buffer
 abbrev pub AnswerPut : Book → Event → ℕ → List ℕ → ℕ → List ℕ → Type 0
 AnswerPut b e n before k after = (r : Reply) × Performed b e r b × Heads (reply_line n r) before k after
+
+-- what is left of a text: a run stands on file and sheet; where the text has a fault, the file holds nothing and the sheet is as a
+-- new one
+abbrev pub Left : List ℕ → Option Request → Book → Type 0
+Left text (Some q) b = IsRun text q b
+Left text None b = (f : Fault) × IsFault text f × (b ≡ new_book)
 
 -- the n-th question of a run is answered by its line; or the run has no such question, and the buffer is as before
 abbrev pub NthAnswered : Stock → Request → Book → ℕ → List ℕ → Result ℕ Unanswered → List ℕ → Type 0

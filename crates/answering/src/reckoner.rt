@@ -3,7 +3,7 @@ ghost use Rattle.rules.specs.declared.fault.Fault.{Fault as FileFault};
 ghost use Rattle.rules.specs.Book.{Book, new_book};
 ghost use Rattle.printing.specs.Lines.{fault_line};
 ghost use Rattle.runfile.specs.Run.{Request, request, IsRun, IsFault};
-ghost use Rattle.answering.specs.Alone.{IsNth, AnswerPut, NthAnswered, AnsweredAlone, IsPut, FaultPut, Counted};
+ghost use Rattle.answering.specs.Alone.{IsNth, AnswerPut, NthAnswered, AnsweredAlone, IsPut, FaultPut, Counted, Left};
 ghost use Rattle.answering.specs.declared.unanswered.Unanswered.TheVariants.{Faulty};
 ghost use Rattle.answering.specs.Answers.{AnsweredBy, Answered, LineAdded};
 ghost use Rattle.rules.specs.History.{ask};
@@ -103,6 +103,8 @@ impl Reckoner {
         ensures accepts { (q : Request) (b : Book) → IsRun text.now q b → 64 ≤ length out.old
             → NthAnswered (E.stock equipment.now q.points) q b number out.old result out.new }
         ensures refuses { (f : FileFault) → IsFault text.now f → 64 ≤ length out.old → result ≡ Err (Faulty f) }
+        ensures left { 64 ≤ length out.old → Left text.now self.new.file self.new.sheet }
+        ensures kept { length out.old < 64 → (self.new.file ≡ self.old.file) × (self.new.sheet ≡ self.old.sheet) }
         ensures output { self.new.output ≡ self.old.output }
     {
         if out.len() < ROOM {
@@ -142,6 +144,8 @@ impl Reckoner {
         ensures put { FaultPut text.now out.old result out.new }
         ensures accepts { (q : Request) (b : Book) → IsRun text.now q b → 64 ≤ length out.old → result ≡ Ok None }
         ensures refuses { (f : FileFault) → IsFault text.now f → 64 ≤ length out.old → IsPut (fault_line f) out.old result out.new }
+        ensures left { 64 ≤ length out.old → Left text.now self.new.file self.new.sheet }
+        ensures kept { length out.old < 64 → (self.new.file ≡ self.old.file) × (self.new.sheet ≡ self.old.sheet) }
         ensures output { self.new.output ≡ self.old.output }
     {
         if out.len() < ROOM {
@@ -158,6 +162,7 @@ impl Reckoner {
         ensures counted { Counted text.now result }
         ensures accepts { (q : Request) (b : Book) → IsRun text.now q b → result ≡ Ok (length q.questions) }
         ensures refuses { (f : FileFault) → IsFault text.now f → result ≡ Err f }
+        ensures left { Left text.now self.new.file self.new.sheet }
         ensures output { self.new.output ≡ self.old.output }
     {
         match self.file.read(&mut self.sheet, text) {
