@@ -43,6 +43,8 @@ for program in c rust; do
         try $program "$scratch/$text" "$scratch/$text.told"
     done
 done
+# Memory for less than a fifth of the reckoners that it makes.
+ulimit -v 400000
 try calls "$top/crates/cases/stdin" "$top/crates/cases/stdout"
 [ "$failed" -eq 0 ] || exit 1
 echo "called from C and from Rust: every call, 6 texts twice and $(grep -c '^[^:]*: ' "$top/crates/cases/stdout") run files print what they should"

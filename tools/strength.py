@@ -22,6 +22,7 @@ import tempfile
 from pathlib import Path
 
 TOP = Path(__file__).resolve().parent.parent
+FOR_C = "zetampuy"
 SRC, PROOF, RUN, NONE, BAD = "refused in src/", "refused in a proof file", "refused only by a run", "SURVIVES", "ERROR OF THE LIST"
 
 
@@ -116,8 +117,14 @@ def run(folder, jobs):
     return RUN, f"{folder.name} " + ("fails its tests" if not is_program else "stops" if "run=ended" not in told[-1] else "prints something else")
 
 
+def called(copy):
+    """What the programs in C and in Rust say of a bug of the static library."""
+    ran = subprocess.run([copy / "tools/callers.sh"], cwd=copy, stdout=subprocess.PIPE, stderr=subprocess.STDOUT)
+    return (RUN, "a program in C or in Rust says otherwise") if ran.returncode else (NONE, "")
+
+
 def by_run(copy, crate, edit, every, jobs):
-    """What the tests of a crate, and the programs and tests above it, say of a bug."""
+    """What the tests of a crate, and the programs and tests above it, say of a bug; of the static library, those who call it."""
     texts = applied(copy / "crates" / crate, edit)
     if not texts:
         return BAD, "cannot be applied"
@@ -130,7 +137,7 @@ def by_run(copy, crate, edit, every, jobs):
             said = run(at, jobs) if (at / "stdout").exists() or has(at, ["#[test]"]) else None
             if said:
                 return said
-        return NONE, ""
+        return called(copy) if crate == FOR_C else (NONE, "")
     finally:
         for path, text in was.items():
             path.write_text(text)
@@ -150,6 +157,8 @@ def main():
         for name in ["crates.txt", "HANDLES"]:
             if (TOP / name).exists():
                 shutil.copy(TOP / name, copy / name)
+        for name in ["tools", "examples"]:
+            shutil.copytree(TOP / name, copy / name)
         shutil.copytree(TOP / "crates", copy / "crates", ignore=shutil.ignore_patterns("out", "must-fail"))
         for crate in asked.crates or every:
             known, folder = bugs(crate), copy / "crates" / crate

@@ -1,7 +1,7 @@
 /*
  * Calls every function of zetampuy.h where it has to answer, to find nothing and to refuse, and looks at what is returned and at
- * all bytes of the buffer. Then it answers the run files on standard input, each behind a line with its length and its name, as
- * the program `cases` does.
+ * all bytes of the buffer; and makes and frees so many reckoners that what is not freed would be missed. Then it answers the run
+ * files on standard input, each behind a line with its length and its name, as the program `cases` does.
  */
 #include <stdio.h>
 #include <stdlib.h>
@@ -80,6 +80,21 @@ static void look_at_returns(void)
     expect(QUESTIONS(run), ZETAMPUY_NO_RECKONER, "");
 }
 
+/* Makes far more reckoners than memory holds at once, each freed before the next is made, or by making the next. */
+static void look_at_memory(void)
+{
+    zetampuy_handle handle = ZETAMPUY_NONE;
+    for (int i = 0; i < 100000 && !wrong; i++) {
+        if (!zetampuy_new(&handle)) {
+            fprintf(stderr, "no memory for reckoner %d\n", i);
+            wrong = 1;
+        }
+        if (i % 2 == 0)
+            zetampuy_free(&handle);
+    }
+    zetampuy_free(&handle);
+}
+
 static void answer(zetampuy_handle *handle, const uint8_t *text, size_t length)
 {
     uint8_t line[ZETAMPUY_ROOM];
@@ -95,6 +110,7 @@ static void answer(zetampuy_handle *handle, const uint8_t *text, size_t length)
 int main(void)
 {
     look_at_returns();
+    look_at_memory();
     zetampuy_handle handle = ZETAMPUY_NONE;
     if (!zetampuy_new(&handle))
         return 1;
