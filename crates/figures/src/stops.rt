@@ -1,7 +1,6 @@
-use laws::{ElectroPneumatic, Freight, FreightByHand, NoPull, Passenger, PassengerByHand, diesel};
-use reckoning::stop;
-use report::{Outcome, example_sheet, stop_of_example, tell_stop};
-use rules::{SectionFigures, StopFigures, StopQuestion, VehicleFigures};
+use laws::{ElectroPneumatic, Freight, FreightByHand, Passenger, PassengerByHand};
+use report::{Outcome, example_sheet, stop_of_df4, stop_of_example};
+use rules::{SectionFigures, StopQuestion, VehicleFigures};
 use sheet::Sheet;
 use std::io;
 
@@ -10,9 +9,8 @@ pub fn example_train(rt: &HostRuntime) -> io::Result<()> {
     println!(rt; "stops of the example train")?;
     for (gradient, speed) in [(-100, 100), (0, 100), (100, 100), (0, 0)] {
         let sheet = example_sheet(rt.alloc(), gradient)?;
-        let answer = stop_of_example(&sheet, speed);
-        let told = Outcome(answer.map(|figures| StopFigures::from(figures)));
-        println!(rt; "gradient {gradient}, speed {speed}: {told}")?;
+        let stop = Outcome::from(stop_of_example(&sheet, speed));
+        println!(rt; "gradient {gradient}, speed {speed}: {stop}")?;
     }
     Ok(())
 }
@@ -21,11 +19,16 @@ pub fn example_train(rt: &HostRuntime) -> io::Result<()> {
 pub fn by_kind(rt: &HostRuntime) -> io::Result<()> {
     let sheet = example_sheet(rt.alloc(), -20)?;
     let question = StopQuestion::full_braking(0, 350);
-    tell_stop::<Freight, _>(rt, "kind F, gradient -20, speed 350", &sheet, question)?;
-    tell_stop::<Passenger, _>(rt, "kind P, gradient -20, speed 350", &sheet, question)?;
-    tell_stop::<ElectroPneumatic, _>(rt, "kind E, gradient -20, speed 350", &sheet, question)?;
-    tell_stop::<FreightByHand, _>(rt, "kind H, gradient -20, speed 350", &sheet, question)?;
-    tell_stop::<PassengerByHand, _>(rt, "kind J, gradient -20, speed 350", &sheet, question)
+    let stop = stop_of_df4::<Freight>(&sheet, question);
+    println!(rt; "kind F, gradient -20, speed 350: {stop}")?;
+    let stop = stop_of_df4::<Passenger>(&sheet, question);
+    println!(rt; "kind P, gradient -20, speed 350: {stop}")?;
+    let stop = stop_of_df4::<ElectroPneumatic>(&sheet, question);
+    println!(rt; "kind E, gradient -20, speed 350: {stop}")?;
+    let stop = stop_of_df4::<FreightByHand>(&sheet, question);
+    println!(rt; "kind H, gradient -20, speed 350: {stop}")?;
+    let stop = stop_of_df4::<PassengerByHand>(&sheet, question);
+    println!(rt; "kind J, gradient -20, speed 350: {stop}")
 }
 
 /// A window that ends with the line, and one that begins at the end of a steep section and one metre behind it.
@@ -37,7 +40,8 @@ pub fn window_ends(rt: &HostRuntime) -> io::Result<()> {
         ("from the end of the fall", 3000),
         ("one metre behind it, to the line's end", 3001),
     ] {
-        tell_stop::<Freight, _>(rt, label, &sheet, StopQuestion::full_braking(place, 100))?;
+        let stop = stop_of_df4::<Freight>(&sheet, StopQuestion::full_braking(place, 100));
+        println!(rt; "{label}: {stop}")?;
     }
     Ok(())
 }
@@ -86,9 +90,8 @@ pub fn long_stops(rt: &HostRuntime) -> io::Result<()> {
             speed,
             factor: 9,
         };
-        let answer = stop::<Freight, _>(&sheet, &diesel(NoPull), question);
-        let told = Outcome(answer.map(|figures| StopFigures::from(figures)));
-        println!(rt; "place {place}, speed {speed}: {told}")?;
+        let stop = stop_of_df4::<Freight>(&sheet, question);
+        println!(rt; "place {place}, speed {speed}: {stop}")?;
     }
     Ok(())
 }
@@ -107,5 +110,6 @@ pub fn alone(rt: &HostRuntime) -> io::Result<()> {
         speed: 500,
         factor: 6,
     };
-    tell_stop::<ElectroPneumatic, _>(rt, "locomotive alone, speed 500", &sheet, question)
+    let alone = stop_of_df4::<ElectroPneumatic>(&sheet, question);
+    println!(rt; "locomotive alone, speed 500: {alone}")
 }

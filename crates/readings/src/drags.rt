@@ -1,6 +1,6 @@
+use crate::telling::tell_readings;
 use laws::{QuadraticDrag, Running, WagonDrag};
 use layers::{Blend, Scale};
-use report::tell_readings;
 use std::io;
 
 /// Wagons and the DF4.
