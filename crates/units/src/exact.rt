@@ -45,16 +45,16 @@ impl<U> ExactValue<U> {
     }
 
     /// The whole number next below, or the value itself where it is whole.
-    pub fn down(self) -> Amount<U>
-        ensures value { result ≡ rounded_down self }
+    pub fn down(&self) -> Amount<U>
+        ensures value { result ≡ rounded_down self.now }
         ensures most { result ≤ 1000000 }
     {
         Amount::new((self.num / u64::from(self.den)) as u32)
     }
 
     /// The whole number next above, or the value itself where it is whole.
-    pub fn up(self) -> Amount<U>
-        ensures value { result ≡ rounded_up self }
+    pub fn up(&self) -> Amount<U>
+        ensures value { result ≡ rounded_up self.now }
         ensures most { result ≤ 1000000 }
     {
         Amount::new(self.num.div_ceil(u64::from(self.den)) as u32)
