@@ -59,7 +59,7 @@ impl SpecificForce {
         self.min(other)
     }
 
-    /// Two forces together, which is the next number of 64 bits where these do not hold it.
+    /// Two forces together; past what 64 bits hold, the last force that they do.
     pub fn plus(self, other: SpecificForce) -> SpecificForce
         ensures { result ≡ saturate_signed w64 (self +ℤ other) }
     {
@@ -68,8 +68,8 @@ impl SpecificForce {
         }
     }
 
-    /// How strong the force is that holds a train back: 0 where it drives the train on, and 4,294,967,295 milli where it is more.
-    pub fn hold(self) -> Milli
+    /// The force as an amount: 0 where it is negative, and 4,294,967,295 milli where it is more.
+    pub fn positive_part(self) -> Milli
         ensures { result ≡ min (natural_of self) 4294967295 }
     {
         let milli = self.milli.max(0).unsigned_abs();
