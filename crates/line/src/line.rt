@@ -4,7 +4,7 @@ ghost use Rattle.rules.specs.Questions.{appending, LawfulSections};
 ghost use Rattle.rules.specs.Refusals.{told, first_no, unless};
 ghost use Rattle.rules.specs.Window.{window};
 ghost use Rattle.std.specs.Int.{int_min};
-ghost use Rattle.std.specs.Prelude.{◌≡◌, ◌≤◌, [], ◌∷◌, ◌++◌, ◌&&◌, length, nat_le, slice_get, MatchOption};
+ghost use Rattle.std.specs.Prelude.{◌≡◌, ◌≤◌, ◌≤ℤ◌, pos, negsuc, [], ◌∷◌, ◌++◌, ◌&&◌, length, nat_le, slice_get, MatchOption};
 
 use crate::section::{Blank, Section};
 use arrayvec::ArrayVec;
@@ -99,6 +99,8 @@ impl Line {
     /// counted; level where no section does.
     pub fn lowest_low_grade(&self, from: u32, to: u32) -> Grade
         ensures value { result ≡ lowest_low_grade (window from to self.now) }
+        ensures least { negsuc 39999 ≤ℤ result }
+        ensures most { result ≤ℤ pos 1040000 }
         ensures lawful { LawfulSections self.now }
     {
         let mut start: u32 = 0;
