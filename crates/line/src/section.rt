@@ -6,6 +6,7 @@ ghost use Rattle.std.specs.Prelude.{◌≡◌, ◌≤◌, ◌&&◌, not, ◌==�
 
 use crate::curve::Curve;
 use rules::{Refusal, SectionFigures};
+use std::default::MadeWith;
 use std::marker::Model;
 use units::{ExactValue, Grade, Milli, MilliPerTonne};
 
@@ -33,6 +34,21 @@ impl Model for Section {
     ghost inverse = { section_of };
 
     ghost inverse_ok = { section_of-figures_of };
+}
+
+// Makes the section that fills a place of a line where no section lies.
+#[derive(Clone, Copy)]
+pub(crate) struct Blank;
+
+impl MadeWith<Blank> for Section {
+    fn made_with(_blank: Blank) -> Section {
+        Section {
+            metres: 1,
+            gradient: 0,
+            curve: None,
+            stop: false,
+        }
+    }
 }
 
 impl TryFrom<SectionFigures> for Section {
