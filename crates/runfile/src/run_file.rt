@@ -132,15 +132,14 @@ fn read_sections(
 ) -> Result<KindLetter, Fault>
     ensures { MatchResult result (λ k. IsRun text.now (request k points.new questions.new) sheet.new) (IsFault text.now) }
 {
-    let mut text = Text::of(text)?;
-    let head = read_head(&mut text)?;
+    let (head, text) = read_head(Text::of(text)?)?;
     let Ok(()) = sheet.set_distance(head.distance) else {
         unreachable!()
     };
-    text.section::<PointLine, Points>(points)?;
-    text.section::<VehicleLine, Sheet>(sheet)?;
-    text.section::<SectionLine, Sheet>(sheet)?;
-    text.section::<QuestionLine, Questions>(questions)?;
+    let text = text.section::<PointLine, Points>(points)?;
+    let text = text.section::<VehicleLine, Sheet>(sheet)?;
+    let text = text.section::<SectionLine, Sheet>(sheet)?;
+    let text = text.section::<QuestionLine, Questions>(questions)?;
     text.end()?;
     Ok(head.kind)
 }
