@@ -17,13 +17,13 @@ pub struct Reading<U> {
     ghost most: { above ≤ 1000000 },
 }
 
-impl<U> From<ExactValue> for Reading<U> {
+impl<U> From<ExactValue<U>> for Reading<U> {
     ghost from_gives = { λ x r. (r.below ≡ rounded_down x) × (r.above ≡ rounded_up x) };
 
-    fn from(exact: ExactValue) -> Reading<U> {
+    fn from(exact: ExactValue<U>) -> Reading<U> {
         Reading {
-            below: Amount::new(exact.down()),
-            above: Amount::new(exact.up()),
+            below: exact.down(),
+            above: exact.up(),
         }
     }
 }
