@@ -31,10 +31,7 @@ pub extern "C" fn zetampuy_new(heap: Global, handle: &mut Handle) -> bool
     ensures made { IfSome handle.new.held.reckoner (λ r. (r.sheet ≡ new_book) × (r.file ≡ None) × (r.output ≡ [])) }
 {
     zetampuy_free(heap, handle);
-    let Ok(reckoner) = Reckoner::new(heap) else {
-        return false;
-    };
-    let Ok(reckoner) = Box::new(heap, reckoner) else {
+    let Ok(reckoner) = Box::new(heap, Reckoner::new()) else {
         return false;
     };
     *handle = Handle::of(reckoner);
