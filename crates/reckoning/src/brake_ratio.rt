@@ -1,12 +1,12 @@
-ghost use Rattle.std.specs.Prelude.{◌≡◌, ◌*◌, ◌/◌, ◌<◌, ◌≤◌, MatchOption};
+ghost use Rattle.std.specs.Prelude.{◌≡◌, ◌*◌, ◌/◌, ◌≤◌};
 ghost use Rattle.rules.specs.Ratio.{ratio};
 
-use crate::amount::{Friction, Milli};
 use std::marker::Model;
+use units::{Friction, Milli};
 
-/// The share of a train's weight with which its blocks are pressed on, never more than the whole.
-#[derive(Clone, Copy, PartialEq, Eq, Debug)]
-pub struct BrakeRatio {
+// The share of a train's weight with which its blocks are pressed on, never more than the whole.
+#[derive(Clone, Copy)]
+pub(crate) struct BrakeRatio {
     pressed: u32,
     weight: u32,
 }
@@ -25,32 +25,26 @@ impl Model for BrakeRatio {
 }
 
 impl BrakeRatio {
-    /// The share that the pressed weight has in the weight; none where there is no weight, or more is pressed than it.
-    pub fn new(pressed: u32, weight: u32) -> Option<BrakeRatio>
-        ensures { MatchOption result (1 ≤ weight → weight < pressed) (λ s. s ≡ ratio pressed weight) }
+    // The share that the pressed weight has in the weight.
+    pub(crate) fn new(pressed: u32, weight: u32) -> BrakeRatio
+        requires some { 1 ≤ weight }
+        requires within { pressed ≤ weight }
+        ensures { result ≡ ratio pressed weight }
     {
-        if 1 <= weight && pressed <= weight {
-            Some(BrakeRatio { pressed, weight })
-        } else {
-            None
-        }
+        BrakeRatio { pressed, weight }
+    }
+
+    // The brake force of blocks of a friction, per mass of the train, rounded down.
+    pub(crate) fn force(self, friction: Friction) -> Milli
+        ensures { result ≡ self.num * friction / self.den }
+    {
+        Milli::new(self.part_of(friction.count()))
     }
 
     // The part of n that the share is, rounded down.
-    fn of(self, n: u32) -> u32
-        ensures value { result ≡ self.num * n / self.den }
-        ensures bound { result ≤ n }
+    fn part_of(self, n: u32) -> u32
+        ensures { result ≡ self.num * n / self.den }
     {
         (u64::from(self.pressed) * u64::from(n) / u64::from(self.weight)) as u32
-    }
-}
-
-impl Friction {
-    /// The brake force of blocks of this friction, per mass of the train, rounded down.
-    pub fn braking(self, pressing: BrakeRatio) -> Milli
-        ensures share { result ≡ pressing.num * self / pressing.den }
-        ensures bound { result ≤ self }
-    {
-        Milli::new(pressing.of(self.count()))
     }
 }

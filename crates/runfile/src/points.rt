@@ -1,10 +1,9 @@
-ghost use Rattle.std.specs.Prelude.{◌≡◌, ◌≤◌, List, [], vec_len, vec_capacity, IfOk};
+ghost use Rattle.std.specs.Prelude.{◌≡◌, ◌≤◌, List, [], take};
 ghost use Rattle.rules.specs.declared.figures.PointFigures.{PointFigures as GivenPoint};
 ghost use Rattle.runfile.specs.Sorts.{point_sort};
 
 use pull_table::{MOST_POINTS, first_break};
 use rules::{Fault, PointFigures, Refusal};
-use std::alloc::{AllocError, Global};
 use std::marker::Model;
 use text::{Entry, Malformed, Store, pair};
 
@@ -43,34 +42,38 @@ impl Entry for PointLine {
     }
 }
 
-/// The points of a pull table as far as they are read, at most 16; the memory for them is reserved when this is made.
+/// The points of a pull table as far as they are read, at most 16. They lie in the value itself, which wants no memory.
 #[derive(Drop)]
 pub struct Points {
-    points: Vec<PointFigures>,
+    // An `ArrayVec` would want a `Default` of these figures, since they are of another crate.
+    points: [PointFigures; MOST_POINTS],
+    count: usize,
 }
 
 impl Model for Points {
     ghost Value = { List GivenPoint };
 
-    ghost view = { λ p. p.points.items };
+    ghost view = { λ p. take p.count p.points };
 
-    ghost invariant = { λ p. (vec_len p.points ≤ 16) × (16 ≤ vec_capacity p.points) };
+    ghost invariant = { λ p. p.count ≤ 16 };
 }
 
 impl Points {
-    /// Room for points, without any.
-    pub fn new(heap: Global) -> Result<Points, AllocError>
-        ensures { IfOk result (λ p. p ≡ []) }
+    /// No points yet.
+    pub fn new() -> Points
+        ensures { result ≡ [] }
     {
-        let points = Vec::with_capacity(heap, MOST_POINTS)?;
-        Ok(Points { points })
+        Points {
+            points: [PointFigures { speed: 0, value: 0 }; MOST_POINTS],
+            count: 0,
+        }
     }
 
     /// The points in order.
     pub fn points(&self) -> &[PointFigures]
         ensures { result.now ≡ self.now }
     {
-        &self.points
+        &self.points[..self.count]
     }
 }
 
@@ -80,18 +83,19 @@ impl Store<PointLine> for Points {
     ghost emptied = { λ points. [] };
 
     fn clear(&mut self) {
-        self.points.clear();
+        self.count = 0;
     }
 
     fn store(&mut self, line: PointLine) -> Result<(), Refusal> {
-        if self.points.len() >= MOST_POINTS {
+        let count = self.count;
+        if count == MOST_POINTS {
             return Err(Refusal::UnlawfulLaw);
         }
-        self.points.push_reserved(line.figures);
-        if first_break(&self.points).is_some() {
-            self.points.pop();
+        self.points[count] = line.figures;
+        if first_break(&self.points[..count + 1]).is_some() {
             return Err(Refusal::UnlawfulLaw);
         }
+        self.count = count + 1;
         Ok(())
     }
 }

@@ -1,11 +1,10 @@
-ghost use Rattle.std.specs.Prelude.{◌≡◌, ◌≤◌, List, [], length, vec_len, vec_capacity, IfOk};
+ghost use Rattle.std.specs.Prelude.{◌≡◌, ◌≤◌, List, [], length, take};
 ghost use Rattle.rules.specs.declared.figures.Question.{Question as Asked};
 ghost use Rattle.runfile.specs.Sorts.{question_sort};
 ghost use Rattle.text.specs.Numerals.{LineRead};
 ghost use Rattle.text.specs.Sorts.{Says};
 
 use rules::{Fault, MassQuestion, Question, Refusal, SpeedQuestion, StopQuestion};
-use std::alloc::{AllocError, Global};
 use std::marker::Model;
 use text::{Entry, Malformed, Store, pair, triple};
 
@@ -75,27 +74,34 @@ impl Entry for QuestionLine {
     }
 }
 
-/// The questions of a run file in their order, at most 200; the memory for them is reserved when this is made.
+/// The questions of a run file in their order, at most 200. They lie in the value itself, which wants no memory.
 #[derive(Drop)]
 pub struct Questions {
-    questions: Vec<Question>,
+    questions: [Question; MOST_QUESTIONS],
+    count: usize,
 }
 
 impl Model for Questions {
     ghost Value = { List Asked };
 
-    ghost view = { λ q. q.questions.items };
+    ghost view = { λ q. take q.count q.questions };
 
-    ghost invariant = { λ q. (vec_len q.questions ≤ 200) × (200 ≤ vec_capacity q.questions) };
+    ghost invariant = { λ q. q.count ≤ 200 };
 }
 
 impl Questions {
-    /// Room for questions, without any.
-    pub fn new(heap: Global) -> Result<Questions, AllocError>
-        ensures { IfOk result (λ q. q ≡ []) }
+    /// No questions yet.
+    pub fn new() -> Questions
+        ensures { result ≡ [] }
     {
-        let questions = Vec::with_capacity(heap, MOST_QUESTIONS)?;
-        Ok(Questions { questions })
+        let blank = Question::Speed(SpeedQuestion {
+            place: 0,
+            factor: 0,
+        });
+        Questions {
+            questions: [blank; MOST_QUESTIONS],
+            count: 0,
+        }
     }
 
     /// The questions in order.
@@ -103,7 +109,7 @@ impl Questions {
         ensures questions { result.now ≡ self.now }
         ensures few { length self.now ≤ 200 }
     {
-        &self.questions
+        &self.questions[..self.count]
     }
 }
 
@@ -113,14 +119,16 @@ impl Store<QuestionLine> for Questions {
     ghost emptied = { λ questions. [] };
 
     fn clear(&mut self) {
-        self.questions.clear();
+        self.count = 0;
     }
 
     fn store(&mut self, line: QuestionLine) -> Result<(), Refusal> {
-        if self.questions.len() >= MOST_QUESTIONS {
+        let count = self.count;
+        if count == MOST_QUESTIONS {
             return Err(Refusal::QuestionOutOfRange);
         }
-        self.questions.push_reserved(line.question);
+        self.questions[count] = line.question;
+        self.count = count + 1;
         Ok(())
     }
 }
