@@ -83,9 +83,9 @@ impl Store<PointLine> for Points {
     }
 
     fn store(&mut self, line: PointLine) -> Result<(), Refusal> {
-        if self.points.try_push(line.figures).is_err() {
-            return Err(Refusal::UnlawfulLaw);
-        }
+        self.points
+            .try_push(line.figures)
+            .map_err(|_| Refusal::UnlawfulLaw)?;
         if first_break(&self.points).is_some() {
             self.points.pop();
             return Err(Refusal::UnlawfulLaw);
