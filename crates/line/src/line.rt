@@ -92,7 +92,7 @@ impl Line {
         ensures value { result ≡ line_length self.now }
         ensures most { result ≤ 4000000 }
     {
-        self.sections.iter().map(|section| section.metres()).sum()
+        self.sections().iter().map(|section| section.metres()).sum()
     }
 
     /// The lowest low grade of the sections that share a point with the stretch from one place to another, every end

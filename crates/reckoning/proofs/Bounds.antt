@@ -41,10 +41,6 @@ delay_most t c v b g lawful hv hb hg =
     up_least (ratio (v * (1000 * t * b + 1000 * c * fall_of g)) (36 * b)) (omega arith) 216000000
     (delay_short v t c b (fall_of g) hv lawful.few lawful.mild hb (shallow g hg))
 
--- a quotient rounded up is at most what is divided
-pub quotient_small : (n d k : ℕ) → 1 ≤ d → n ≤ k → rounded_up (ratio n d) ≤ k
-quotient_small n d k h l = up_least (ratio n d) h k (omega (arith, mul-le-mul l h))
-
 by_wagons : (b : Bool) (m n : ℕ) → eqb n 0 ≡ b → 50 * n ≤ m → m ≤ 2000 * n → (50 ≤ cond b 50 (rounded_up (ratio m n))) × (cond b 50 (rounded_up (ratio m n)) ≤ 2000)
 by_wagons true m n e h k = (omega arith, omega arith)
 by_wagons false m n e h k =

@@ -157,7 +157,7 @@ impl<'a, S: StockLaws> Braking<'a, S> {
     }
 
     // The distance in millimetres that the train runs before the brakes hold.
-    #[tactic(auto, using(crate::proofs::Bounds::delay_small, crate::proofs::Bounds::quotient_small), unfolding(rules::specs::Stop::delay_run))]
+    #[tactic(auto, using(crate::proofs::Bounds::delay_small), unfolding(rules::specs::Stop::delay_run))]
     fn delay<K: BrakeKind>(&self, v: Speed, brake: Milli) -> u64
         requires { 1000 ≤ brake }
         ensures { result ≡ delay_run (kind K.T K.C) v brake self.now.approach.lowest }

@@ -14,7 +14,7 @@ pub(crate) struct Run {
     pub(crate) least: Milli,
     pub(crate) steps: u32,
     ghost few: { steps ≤ 27 },
-    ghost told: { least ≤ 4294967295 },
+    ghost bounded: { least ≤ 4294967295 },
     ghost small: { distance ≤ step_limit * steps },
 }
 

@@ -1,7 +1,8 @@
-ghost use Rattle.std.specs.Prelude.{◌≡◌, ◌≤◌, List, [], take};
+ghost use Rattle.std.specs.Prelude.{◌≡◌, List, []};
 ghost use Rattle.rules.specs.declared.figures.PointFigures.{PointFigures as GivenPoint};
 ghost use Rattle.runfile.specs.Sorts.{point_sort};
 
+use arrayvec::ArrayVec;
 use pull_table::{MOST_POINTS, first_break};
 use rules::{Fault, PointFigures, Refusal};
 use std::marker::Model;
@@ -45,17 +46,13 @@ impl Entry for PointLine {
 /// The points of a pull table as far as they are read, at most 16. They lie in the value itself, which wants no memory.
 #[derive(Drop)]
 pub struct Points {
-    // An `ArrayVec` would want a `Default` of these figures, since they are of another crate.
-    points: [PointFigures; MOST_POINTS],
-    count: usize,
+    points: ArrayVec<PointFigures, MOST_POINTS>,
 }
 
 impl Model for Points {
     ghost Value = { List GivenPoint };
 
-    ghost view = { λ p. take p.count p.points };
-
-    ghost invariant = { λ p. p.count ≤ 16 };
+    ghost view = { λ p. p.points.items };
 }
 
 impl Points {
@@ -64,8 +61,7 @@ impl Points {
         ensures { result ≡ [] }
     {
         Points {
-            points: [PointFigures { speed: 0, value: 0 }; MOST_POINTS],
-            count: 0,
+            points: ArrayVec::new(),
         }
     }
 
@@ -73,7 +69,7 @@ impl Points {
     pub fn points(&self) -> &[PointFigures]
         ensures { result.now ≡ self.now }
     {
-        &self.points[..self.count]
+        &self.points
     }
 }
 
@@ -83,19 +79,17 @@ impl Store<PointLine> for Points {
     ghost emptied = { λ points. [] };
 
     fn clear(&mut self) {
-        self.count = 0;
+        self.points.clear();
     }
 
     fn store(&mut self, line: PointLine) -> Result<(), Refusal> {
-        let count = self.count;
-        if count == MOST_POINTS {
+        self.points
+            .try_push(line.figures)
+            .map_err(|_| Refusal::UnlawfulLaw)?;
+        if first_break(&self.points).is_some() {
+            self.points.pop();
             return Err(Refusal::UnlawfulLaw);
         }
-        self.points[count] = line.figures;
-        if first_break(&self.points[..count + 1]).is_some() {
-            return Err(Refusal::UnlawfulLaw);
-        }
-        self.count = count + 1;
         Ok(())
     }
 }

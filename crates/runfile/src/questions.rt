@@ -1,9 +1,10 @@
-ghost use Rattle.std.specs.Prelude.{◌≡◌, ◌≤◌, List, [], length, take};
+ghost use Rattle.std.specs.Prelude.{◌≡◌, ◌≤◌, List, [], length};
 ghost use Rattle.rules.specs.declared.figures.Question.{Question as Asked};
 ghost use Rattle.runfile.specs.Sorts.{question_sort};
 ghost use Rattle.text.specs.Numerals.{LineRead};
 ghost use Rattle.text.specs.Sorts.{Says};
 
+use arrayvec::ArrayVec;
 use rules::{Fault, MassQuestion, Question, Refusal, SpeedQuestion, StopQuestion};
 use std::marker::Model;
 use text::{Entry, Malformed, Store, pair, triple};
@@ -77,16 +78,13 @@ impl Entry for QuestionLine {
 /// The questions of a run file in their order, at most 200. They lie in the value itself, which wants no memory.
 #[derive(Drop)]
 pub struct Questions {
-    questions: [Question; MOST_QUESTIONS],
-    count: usize,
+    questions: ArrayVec<Question, MOST_QUESTIONS>,
 }
 
 impl Model for Questions {
     ghost Value = { List Asked };
 
-    ghost view = { λ q. take q.count q.questions };
-
-    ghost invariant = { λ q. q.count ≤ 200 };
+    ghost view = { λ q. q.questions.items };
 }
 
 impl Questions {
@@ -94,13 +92,8 @@ impl Questions {
     pub fn new() -> Questions
         ensures { result ≡ [] }
     {
-        let blank = Question::Speed(SpeedQuestion {
-            place: 0,
-            factor: 0,
-        });
         Questions {
-            questions: [blank; MOST_QUESTIONS],
-            count: 0,
+            questions: ArrayVec::new(),
         }
     }
 
@@ -109,7 +102,7 @@ impl Questions {
         ensures questions { result.now ≡ self.now }
         ensures few { length self.now ≤ 200 }
     {
-        &self.questions[..self.count]
+        &self.questions
     }
 }
 
@@ -119,16 +112,12 @@ impl Store<QuestionLine> for Questions {
     ghost emptied = { λ questions. [] };
 
     fn clear(&mut self) {
-        self.count = 0;
+        self.questions.clear();
     }
 
     fn store(&mut self, line: QuestionLine) -> Result<(), Refusal> {
-        let count = self.count;
-        if count == MOST_QUESTIONS {
-            return Err(Refusal::QuestionOutOfRange);
-        }
-        self.questions[count] = line.question;
-        self.count = count + 1;
-        Ok(())
+        self.questions
+            .try_push(line.question)
+            .map_err(|_| Refusal::QuestionOutOfRange)
     }
 }

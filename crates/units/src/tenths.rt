@@ -73,7 +73,7 @@ impl Speed {
     pub fn from_tenths(tenths: u32) -> Result<Speed, Refusal>
         ensures { MadeOr 7 (tenths ≤ 1600) (λ v. v ≡ tenths) result }
     {
-        Tenths::within(tenths).ok_or(Refusal::QuestionOutOfRange)
+        Speed::within(tenths).ok_or(Refusal::QuestionOutOfRange)
     }
 
     /// The speed of so many tenths of km/h, and 160 km/h for any that are more.
@@ -92,7 +92,7 @@ impl Gross {
     pub fn from_tenths(tenths: u32) -> Result<Gross, Refusal>
         ensures { MadeOr 7 ((50 ≤ tenths) × (tenths ≤ 2000)) (λ q. q ≡ tenths) result }
     {
-        Tenths::within(tenths).ok_or(Refusal::QuestionOutOfRange)
+        Gross::within(tenths).ok_or(Refusal::QuestionOutOfRange)
     }
 }
 
@@ -103,7 +103,7 @@ impl Load {
         ensures { MadeOr 13 (500 ≤ limit) (λ x. x ≡ 500 * (min limit 100000 / 500)) result }
     {
         let multiple = limit.min(100_000) / 500 * 500;
-        Tenths::within(multiple).ok_or(Refusal::HaulsNothing)
+        Load::within(multiple).ok_or(Refusal::HaulsNothing)
     }
 }
 
