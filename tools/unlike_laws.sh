@@ -1,6 +1,7 @@
 #!/usr/bin/env bash
-# Layers laws of one sort and of different sorts in a scratch crate: the compiler must refuse the lines marked `unlike`, each
-# for the types of its laws, and no other line. No edit of a crate can show this, since an edit has to compile.
+# Layers laws of one sort and of different sorts, and takes figures of one unit for those of another, in scratch crates: the
+# compiler must refuse the lines marked `unlike`, each for its types, and no other line. No edit of a crate can show this, since an
+# edit has to compile.
 set -eu
 top=$(cd "$(dirname "$0")/.." && pwd)
 scratch=$(mktemp -d)
@@ -12,8 +13,11 @@ for name in rules units laws pull_table layers; do
     if [ -d "$top/crates/$name/proofs" ]; then cp -r "$top/crates/$name/proofs" "$scratch/crates/$name/"; fi
     grep -E "^$name:" "$top/crates.txt" >> "$scratch/crates.txt"
 done
-echo "layered: layers pull_table laws units rules" >> "$scratch/crates.txt"
-mkdir -p "$scratch/crates/layered/src"
+for name in layered measured; do
+    echo "$name: layers pull_table laws units rules" >> "$scratch/crates.txt"
+    mkdir -p "$scratch/crates/$name/src"
+done
+
 cat > "$scratch/crates/layered/src/lib.rt" <<'CODE'
 #![tactic(auto)]
 
@@ -48,13 +52,59 @@ pub fn layered() -> Result<(), Refusal> {
 }
 CODE
 
-cd "$scratch/crates/layered"
-rt check > "$scratch/told" 2>&1 && { echo "unlike laws are layered"; exit 1; }
-wanted=$(grep -n "// unlike" src/lib.rt | cut -d: -f1)
-refused=$(grep -E '^src/lib\.rt:[0-9]+:[0-9]+: error\[(mismatched-associated-type|unsatisfied-bound)\]' "$scratch/told" | cut -d: -f2 | sort -nu)
-if [ "$wanted" != "$refused" ] || grep -E '(^|[ :])error' "$scratch/told" | grep -qvE 'error\[(mismatched-associated-type|unsatisfied-bound)\]'; then
-    cat "$scratch/told"
-    echo "the compiler refuses other lines than those of unlike laws"
-    exit 1
-fi
-echo "laws of different sorts are not layered: $(echo "$wanted" | wc -l) lines refused"
+cat > "$scratch/crates/measured/src/lib.rt" <<'CODE'
+#![tactic(auto)]
+
+ghost use Rattle.rules.specs.Formulas.{cast_iron};
+ghost use Rattle.std.proofs.Common.{rules};
+
+use laws::{CastIron, Formula, Reading, Running, WagonDrag};
+use units::{ExactValue, Friction, Grade, Kgf, KilogramsForce, Milli, MilliPerTonne, Speed};
+
+/// A friction that is stated as a pull.
+pub struct FrictionAsPull;
+
+impl Formula for FrictionAsPull {
+    type Unit = KilogramsForce;
+
+    type Place = Speed;
+
+    ghost value = { λ _ v. cast_iron v };
+
+    ghost proper = { Prim.search rules };
+
+    ghost most = { Prim.search rules };
+
+    fn exactly(&self, v: Speed) -> ExactValue<KilogramsForce> {
+        CastIron.exactly(v) // unlike
+    }
+}
+
+pub fn measured(at: Running) {
+    let _: Reading<MilliPerTonne> = Reading::from(WagonDrag.exactly(at));
+    let _: Reading<KilogramsForce> = Reading::from(WagonDrag.exactly(at)); // unlike
+    let _: Milli = WagonDrag.exactly(at).down();
+    let _: Kgf = WagonDrag.exactly(at).down(); // unlike
+    let _: Friction = WagonDrag.exactly(at).up(); // unlike
+    let _: Grade = WagonDrag.exactly(at).down().signed();
+    let _: Grade = WagonDrag.exactly(at).down(); // unlike
+    let _: Grade = CastIron.exactly(at.speed).down().signed(); // unlike
+    let _: Milli = Grade::of_gradient(-100).fall();
+    let _: Milli = Grade::of_gradient(-100); // unlike
+    let _: Grade = Grade::of_gradient(-100).plus(Milli::new(1)); // unlike
+}
+CODE
+
+for name in layered measured; do
+    cd "$scratch/crates/$name"
+    rt check > "$scratch/told" 2>&1 && { echo "$name: unlike figures are taken for one another"; exit 1; }
+    wanted=$(grep -n "// unlike" src/lib.rt | cut -d: -f1)
+    types='error\[(mismatched-types|mismatched-associated-type|unsatisfied-bound|unknown-method)\]'
+    refused=$(grep -E "^src/lib\.rt:[0-9]+:[0-9]+: $types" "$scratch/told" | cut -d: -f2 | sort -nu)
+    if [ "$wanted" != "$refused" ] || grep -E '(^|[ :])error' "$scratch/told" | grep -qvE "$types"; then
+        cat "$scratch/told"
+        echo "$name: the compiler refuses other lines than those that are unlike"
+        exit 1
+    fi
+    echo "$name: $(echo "$wanted" | wc -l) lines refused for their types"
+done

@@ -1,4 +1,4 @@
-ghost use Rattle.std.specs.Prelude.{◌≡◌, ℕ, ◌+◌, ◌≤◌, List, [], take, length, vec_len, IfOk};
+ghost use Rattle.std.specs.Prelude.{◌≡◌, ℕ, ◌+◌, ◌≤◌, List, [], take, length};
 ghost use Rattle.history.specs.Replies.{reply_told};
 ghost use Rattle.printing.specs.Lines.{reply_line, fault_line};
 ghost use Rattle.answering.specs.Output.{Appended};
@@ -6,34 +6,35 @@ ghost use Rattle.answering.specs.Output.{Appended};
 use history::Reply;
 use printing::{print_fault, print_reply};
 use rules::{Fault, Refusal};
-use std::alloc::{AllocError, Global};
 use std::marker::Model;
 
 // Room for 200 lines of at most 64 bytes.
 const MOST_BYTES: usize = 12_800;
 
-/// Lines of output; the memory for 200 of them is reserved when this is made.
+/// Lines of output, with room for 200 of them. They lie in the value itself, which wants no memory.
 #[derive(Drop)]
 pub struct Output {
-    buffer: Vec<u8>,
+    buffer: [u8; MOST_BYTES],
     used: usize,
 }
 
 impl Model for Output {
     ghost Value = { List ℕ };
 
-    ghost view = { λ o. take o.used o.buffer.items };
+    ghost view = { λ o. take o.used o.buffer };
 
-    ghost invariant = { λ o. (vec_len o.buffer ≡ 12800) × (o.used ≤ 12800) };
+    ghost invariant = { λ o. o.used ≤ 12800 };
 }
 
 impl Output {
-    /// No lines, and room for them.
-    pub fn new(heap: Global) -> Result<Output, AllocError>
-        ensures { IfOk result (λ o. o ≡ []) }
+    /// No lines yet.
+    pub fn new() -> Output
+        ensures { result ≡ [] }
     {
-        let buffer = vec![in heap; 0; MOST_BYTES]?;
-        Ok(Output { buffer, used: 0 })
+        Output {
+            buffer: [0; MOST_BYTES],
+            used: 0,
+        }
     }
 
     /// Takes all lines out.

@@ -1,4 +1,4 @@
-ghost use Rattle.std.specs.Prelude.{◌≡◌, ℕ, ◌+◌, ◌<◌, ◌≤◌, ◌⊎◌, [], length, Some, None, Ok, Err, IfOk, IfSome, IsSome, MatchOption, MatchResult};
+ghost use Rattle.std.specs.Prelude.{◌≡◌, ℕ, ◌+◌, ◌<◌, ◌≤◌, ◌⊎◌, [], length, Some, None, Ok, Err, IfSome, IsSome, MatchOption, MatchResult};
 ghost use Rattle.rules.specs.declared.fault.Fault.{Fault as FileFault};
 ghost use Rattle.rules.specs.Book.{Book, new_book};
 ghost use Rattle.printing.specs.Lines.{fault_line};
@@ -17,13 +17,12 @@ use printing::{print_fault, print_reply};
 use rules::{Fault, Question, Refusal};
 use runfile::RunFile;
 use sheet::Sheet;
-use std::alloc::{AllocError, Global};
 
 // How many bytes a buffer must have for a line of any figures.
 const ROOM: usize = 64;
 
-/// Answers run files, one after another: a sheet, what was read of a file beside it, and the lines of its answers. The memory for
-/// all of them is reserved when this is made.
+/// Answers run files, one after another: a sheet, what was read of a file beside it, and the lines of its answers. All of it lies in
+/// the value itself, which wants no memory.
 #[derive(Drop)]
 pub struct Reckoner {
     sheet: Sheet,
@@ -32,20 +31,17 @@ pub struct Reckoner {
 }
 
 impl Reckoner {
-    /// A reckoner that has read no file. Only this call can want memory.
-    pub fn new(heap: Global) -> Result<Reckoner, AllocError>
-        ensures sheet { IfOk result (λ r. r.sheet ≡ new_book) }
-        ensures file { IfOk result (λ r. r.file ≡ None) }
-        ensures output { IfOk result (λ r. r.output ≡ []) }
+    /// A reckoner that has read no file.
+    pub fn new() -> Reckoner
+        ensures sheet { result.sheet ≡ new_book }
+        ensures file { result.file ≡ None }
+        ensures output { result.output ≡ [] }
     {
-        let sheet = Sheet::new(heap)?;
-        let file = RunFile::new(heap)?;
-        let output = Output::new(heap)?;
-        Ok(Reckoner {
-            sheet,
-            file,
-            output,
-        })
+        Reckoner {
+            sheet: Sheet::new(),
+            file: RunFile::new(),
+            output: Output::new(),
+        }
     }
 
     /// Reads a run file and answers its questions, a line each; of a file with a fault there is one line, which tells the fault.

@@ -9,7 +9,7 @@ use text::leading_number;
 fn main(rt: HostRuntime) -> io::Result<()> {
     let mut input = Vec::new(rt.alloc());
     rt.stdin().read_to_end(&mut input)?;
-    let mut reckoner = Reckoner::new(rt.alloc())?;
+    let mut reckoner = Reckoner::new();
     let mut rest = input.as_slice();
     for _ in 0..input.len() {
         let Some((name, text, after)) = next_case(rest) else {

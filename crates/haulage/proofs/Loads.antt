@@ -1,23 +1,35 @@
 -- The load that is answered is what the rules answer.
-use Rattle.std.proofs.Common.{◌≡◌, ℕ, ◌*◌, ◌/◌, Bool, leb, List, [], ◌∷◌, length, None, Option, Result, sym, refl, ap, ◌∙◌, arith}
+use Rattle.std.proofs.Common.{◌≡◌, ℕ, ◌*◌, ◌/◌, ◌<◌, ◌≤◌, min, Bool, leb, List, [], ◌∷◌, length, None, Option, Ok, Err, Result, sym, refl, ap, ◌∙◌, arith}
 use Rattle.std.proofs.Math.Path.{fun_ext}
+use Rattle.std.proofs.lemmas.Bool.{le-leb, lt-leb}
+use native.Mathlib.Decide.{dec_lt}
 use Rattle.rules.specs.declared.figures.MassQuestion.{MassQuestion}
 use Rattle.rules.specs.declared.figures.SectionFigures.{SectionFigures}
 use Rattle.rules.specs.declared.refusal.Refusal.{Refusal}
 use Rattle.rules.specs.Law.{Stock}
 use Rattle.rules.specs.Book.{Book, locomotives}
-use Rattle.rules.specs.Refusals.{◌otherwise◌, Question, Reply, hauls, first_no, decide, mass_reply}
+use Rattle.rules.specs.Refusals.{◌otherwise◌, Question, Reply, hauls, refused, first_no, decide, mass_reply, MadeOr}
 use Rattle.rules.specs.Mass.{holds_cautiously, hauling, mass_question_in_range, asked_for_mass, greatest_mass}
 use Rattle.rules.proofs.Asked.{holds as answers}
 use Rattle.haulage.specs.declared.hauler.Hauler.{Hauler}
 use Rattle.haulage.specs.Haulers.{IsHauler, holds_over}
-use Rattle.haulage.specs.Limits.{IsLimit, IsLoadWithin, IsLoad}
+use Rattle.haulage.specs.Limits.{IsLimit, IsLoad}
 use Rattle.haulage.proofs.Limits.{multiples}
 
+-- what is made of a limit is the greatest multiple of 500 within it, refused where that is 0
+within : (n : ℕ) (r : Result ℕ Refusal) → n ≤ 100000 → MadeOr 13 (500 ≤ n) (λ x. x ≡ 500 * (min n 100000 / 500)) r
+    → mass_reply r ≡ decide (first_no ((leb 500 n otherwise 13) ∷ [])) (hauls (500 * (n / 500)))
+within n (Ok x) most (some, is) =
+    let capped : min n 100000 ≡ n = omega arith in
+    rw (le-leb 500 n some) (ap hauls (is ∙ ap (λ (t : ℕ). 500 * (t / 500)) capped))
+within n (Err e) most (is, none) =
+    let few : n < 500 = elim (dec_lt n 500) [ yes h ↦ h | no h ↦ absurd (none (omega (arith, h))) ] in
+    rw (lt-leb 500 n few) (ap refused is)
+
 -- the load within the limit of what holds
-pub load_in : (ok : ℕ → Bool) (n : ℕ) (r : Result ℕ Refusal) → IsLimit ok n → IsLoadWithin n r → IsLoad ok r
+pub load_in : (ok : ℕ → Bool) (n : ℕ) (r : Result ℕ Refusal) → IsLimit ok n → MadeOr 13 (500 ≤ n) (λ x. x ≡ 500 * (min n 100000 / 500)) r → IsLoad ok r
 load_in ok n r limit load =
-    load ∙ ap (λ (t : Bool). decide (first_no ((t otherwise 13) ∷ [])) (hauls (500 * (n / 500)))) (sym (limit.up_to 500 (omega arith) (omega arith)))
+    within n r limit.most load ∙ ap (λ (t : Bool). decide (first_no ((t otherwise 13) ∷ [])) (hauls (500 * (n / 500)))) (sym (limit.up_to 500 (omega arith) (omega arith)))
     ∙ ap (λ (x : ℕ). decide (first_no ((ok 500 otherwise 13) ∷ [])) (hauls x)) (sym (multiples ok n limit))
 
 -- the first three questions leave the decision to those after them

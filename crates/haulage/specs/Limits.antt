@@ -1,5 +1,5 @@
 -- Limits: up to where masses of wagons hold, in tenths of a tonne.
-use Rattle.std.specs.Prelude.{◌≡◌, ℕ, ◌*◌, ◌/◌, ◌≤◌, Bool, leb, [], ◌∷◌, Result}
+use Rattle.std.specs.Prelude.{◌≡◌, ℕ, ◌*◌, ◌≤◌, Bool, leb, [], ◌∷◌, Result}
 use Rattle.rules.specs.declared.refusal.Refusal.{Refusal}
 use Rattle.rules.specs.Mass.{greatest_mass}
 use Rattle.rules.specs.Refusals.{◌otherwise◌, hauls, first_no, decide, mass_reply}
@@ -12,10 +12,6 @@ pub record IsLimit (ok : ℕ → Bool) (n : ℕ) : Type 0 where
 -- a force moves a mass of which every tenth of a tonne resists by so much
 abbrev pub moves : ℕ → ℕ → ℕ → Bool
 moves force resistance x = leb (x * resistance) force
-
--- the greatest multiple of 500 within a limit, refused where that is 0
-abbrev pub IsLoadWithin : ℕ → Result ℕ Refusal → Type 0
-IsLoadWithin limit r = mass_reply r ≡ decide (first_no ((leb 500 limit otherwise 13) ∷ [])) (hauls (500 * (limit / 500)))
 
 -- the greatest multiple of 500 that holds, refused where 500 does not
 abbrev pub IsLoad : (ℕ → Bool) → Result ℕ Refusal → Type 0

@@ -1,5 +1,5 @@
 ghost use Rattle.std.specs.Prelude.{◌≡◌, ◌≤◌};
-ghost use Rattle.haulage.specs.Limits.{IsLimit, IsLoad, IsLoadWithin};
+ghost use Rattle.haulage.specs.Limits.{IsLimit, IsLoad};
 
 use crate::hauling::{GREATEST, Hauling};
 use laws::StockLaws;
@@ -29,8 +29,8 @@ impl Hauler {
     ) -> Result<Hauler, Refusal>
         ensures { IsAskedFor (S.meaning stock.now) sheet.now question result }
     {
-        let v = Speed::from_tenths(question.speed).ok_or(Refusal::QuestionOutOfRange)?;
-        let gross = Gross::from_tenths(question.gross).ok_or(Refusal::QuestionOutOfRange)?;
+        let v = Speed::from_tenths(question.speed)?;
+        let gross = Gross::from_tenths(question.gross)?;
         let train = sheet.consist().totals();
         if train.locomotives == 0 {
             return Err(Refusal::NoLocomotive);
@@ -50,7 +50,7 @@ impl Hauler {
     pub(crate) fn load(&self, sections: &[Section]) -> Result<Load, Refusal>
         ensures { IsLoad (holds_over self.now sections.now) result }
     {
-        load_within(self.limit_over(sections))
+        Load::within_limit(self.limit_over(sections))
     }
 
     // The greatest mass of wagons, in tenths of a tonne, that it hauls over every one of some sections.
@@ -69,7 +69,7 @@ impl Hauler {
     fn limit_on(&self, section: &Section) -> u32
         ensures { IsLimit (holds_by self.now section.now) result }
     {
-        let rise = section.high_grade().rise();
+        let rise = section.high_grade();
         let moving = self.moving.limit(self.train, rise);
         if section.is_stop() {
             moving.min(self.starting.limit(self.train, rise))
@@ -77,12 +77,4 @@ impl Hauler {
             moving
         }
     }
-}
-
-// The greatest multiple of 50 t within a limit in tenths of a tonne.
-fn load_within(limit: u32) -> Result<Load, Refusal>
-    requires { limit ≤ 100000 }
-    ensures { IsLoadWithin limit result }
-{
-    Load::from_tenths(limit / 500 * 500).ok_or(Refusal::HaulsNothing)
 }

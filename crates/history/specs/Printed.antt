@@ -4,6 +4,7 @@ use Rattle.laws.specs.Kinds.{letter_of}
 use Rattle.laws.specs.declared.kind.KindLetter.{KindLetter}
 use Rattle.rules.specs.declared.figures.Question.{Question}
 use Rattle.rules.specs.Printed.{vehicle_text, section_text, stop_text, question_text}
+use Rattle.rules.specs.Questions.{figures}
 use Rattle.rules.specs.Reasons.{refusal_text}
 use Rattle.history.specs.declared.call.Call.{Call}
 use Rattle.history.specs.declared.call.Call.TheVariants.{Couple, Uncouple, CutOut, Restore, Append, Lift, SetDistance, Ask}
@@ -12,7 +13,7 @@ use Rattle.history.specs.declared.reply.Reply.TheVariants.{Passed, Stops, Runs, 
 
 abbrev pub reply_text : Reply → List ℕ
 reply_text Passed = codes "passed"
-reply_text (Stops t) = stop_text t
+reply_text (Stops t) = stop_text (figures t)
 reply_text (Runs v) = codes "up to speed " ++ decimal v
 reply_text (Hauls x) = codes "up to mass " ++ decimal x
 reply_text (Refused e) = refusal_text e

@@ -6,7 +6,7 @@ use Rattle.history.specs.declared.reply.Reply.TheVariants.{Passed, Stops, Runs, 
 -- every case with its number and values
 abbrev pub reply_told : Reply → Told
 reply_told Passed = passed
-reply_told (Stops t) = stops t.distance t.least t.steps
+reply_told (Stops t) = stops t.0 t.1 t.2
 reply_told (Runs v) = runs v
 reply_told (Hauls x) = hauls x
 reply_told (Refused e) = refused (number_of e)

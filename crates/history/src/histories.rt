@@ -14,10 +14,11 @@ pub fn perform<Q: Inquiry>(sheet: &mut Sheet, calls: &mut [Exchange<Q>])
     }
 }
 
-/// Performs calls in their order on a sheet that is emptied first, as on a new one.
-pub fn perform_anew<Q: Inquiry>(sheet: &mut Sheet, calls: &mut [Exchange<Q>])
-    ensures { AllPerformed Q.inquiry new_book calls.old calls.new sheet.new }
+/// Performs calls in their order on a new sheet, puts the reply to each beside it, and answers the sheet.
+pub fn perform_anew<Q: Inquiry>(calls: &mut [Exchange<Q>]) -> Sheet
+    ensures { AllPerformed Q.inquiry new_book calls.old calls.new result }
 {
-    sheet.clear();
-    perform(sheet, calls);
+    let mut sheet = Sheet::new();
+    perform(&mut sheet, calls);
+    sheet
 }

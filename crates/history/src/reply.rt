@@ -12,8 +12,8 @@ use units::{Load, Speed};
 pub enum Reply {
     /// An edit passed.
     Passed,
-    /// A stop is answered: its distance, its least force and the number of its steps.
-    Stops(StopFigures),
+    /// A stop is answered: its distance in millimetres, its least force in milli, and the number of its steps.
+    Stops((u32, u32, u32)),
     /// A speed is answered.
     Runs(Speed),
     /// A mass is answered.
@@ -40,7 +40,7 @@ impl From<Result<(u32, u32, u32), Refusal>> for Reply {
     // To a stop question.
     fn from(made: Result<(u32, u32, u32), Refusal>) -> Reply {
         match made {
-            Ok(figures) => Reply::Stops(StopFigures::from(figures)),
+            Ok(figures) => Reply::Stops(figures),
             Err(refusal) => Reply::Refused(refusal),
         }
     }
@@ -76,7 +76,7 @@ impl fmt::Display for Reply {
     fn fmt<W: fmt::Write>(&self, f: &mut fmt::Formatter<W>) -> fmt::Result {
         match self {
             Reply::Passed => f.write_str("passed"),
-            Reply::Stops(figures) => write!(f, "{figures}"),
+            Reply::Stops(figures) => write!(f, "{}", StopFigures::from(*figures)),
             Reply::Runs(speed) => write!(f, "up to speed {speed}"),
             Reply::Hauls(load) => write!(f, "up to mass {load}"),
             Reply::Refused(refusal) => write!(f, "{refusal}"),

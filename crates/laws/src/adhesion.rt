@@ -39,7 +39,7 @@ impl Formula for AdhesionPull {
 
     ghost most = { λ l v h. adhesion_cap l.mass v l.lawful };
 
-    fn exactly(&self, v: Speed) -> ExactValue {
+    fn exactly(&self, v: Speed) -> ExactValue<KilogramsForce> {
         let mass = u64::from(self.mass);
         let shifted = 50 + v.tenths();
         ExactValue::of(25 * mass * u64::from(shifted) + 400 * mass, shifted).unwrap()

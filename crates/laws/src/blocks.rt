@@ -22,7 +22,7 @@ impl Formula for CastIron {
 
     ghost most = { Prim.search rules };
 
-    fn exactly(&self, v: Speed) -> ExactValue {
+    fn exactly(&self, v: Speed) -> ExactValue<Millionths> {
         let v = v.tenths();
         ExactValue::of(270_000 * (u64::from(v) + 1000), 5 * v + 1000).unwrap()
     }
@@ -47,7 +47,7 @@ impl Formula for Composite {
 
     ghost most = { Prim.search rules };
 
-    fn exactly(&self, v: Speed) -> ExactValue {
+    fn exactly(&self, v: Speed) -> ExactValue<Millionths> {
         let v = v.tenths();
         ExactValue::of(360_000 * (u64::from(v) + 1500), 2 * v + 1500).unwrap()
     }

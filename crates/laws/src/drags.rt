@@ -24,7 +24,7 @@ impl Formula for WagonDrag {
 
     ghost most = { Prim.search rules };
 
-    fn exactly(&self, at: Running) -> ExactValue {
+    fn exactly(&self, at: Running) -> ExactValue<MilliPerTonne> {
         let num = 100_000 * (u64::from(at.speed.tenths()) + 650);
         ExactValue::of(num, 12_000 + 55 * at.gross.tenths()).unwrap()
     }
@@ -79,7 +79,7 @@ impl Formula for QuadraticDrag {
 
     ghost most = { λ l r h. quadratic_cap l.a l.b l.c r.speed r.gross l.lawful h.0 };
 
-    fn exactly(&self, at: Running) -> ExactValue {
+    fn exactly(&self, at: Running) -> ExactValue<MilliPerTonne> {
         let v = u64::from(at.speed.tenths());
         let a = u64::from(self.a);
         let b = u64::from(self.b);

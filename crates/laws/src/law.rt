@@ -1,9 +1,11 @@
-ghost use Rattle.std.specs.Prelude.{◌≡◌, ℕ, ◌*◌, ◌<◌, ◌≤◌, ◌++◌, Some, codes, decimal, MatchOption};
+ghost use Rattle.std.specs.Prelude.{◌≡◌, ℕ, ◌*◌, ◌≤◌, ◌++◌, Some, codes, decimal};
 ghost use Rattle.rules.specs.Allowance.{as_u32};
 ghost use Rattle.rules.specs.Ratio.{Ratio, AtMost};
 ghost use Rattle.rules.specs.Law.{Reads};
+ghost use Rattle.rules.specs.Refusals.{MadeOr};
 
 use crate::reading::Reading;
+use rules::Refusal;
 use std::fmt;
 use units::{Amount, ExactValue, Gross, MilliPerTonne, Speed};
 
@@ -30,11 +32,12 @@ impl Place for Running {
 
 impl Running {
     // By name and not by `TryFrom`, as its two figures: a pair of bare numbers would not say tenths.
-    /// A train at a speed and a gross mass per wagon, both in tenths; none where either is out of its range.
-    pub fn from_tenths(speed: u32, gross: u32) -> Option<Running>
-        ensures { MatchOption result (speed ≤ 1600 → 50 ≤ gross → 2000 < gross) (λ r. (r.speed ≡ speed) × (r.gross ≡ gross)) }
+    /// A train at a speed and a gross mass per wagon, both in tenths; refused with 7 where either is out of its range.
+    pub fn from_tenths(speed: u32, gross: u32) -> Result<Running, Refusal>
+        ensures { MadeOr 7 ((speed ≤ 1600) × (50 ≤ gross) × (gross ≤ 2000))
+            (λ r. (r.speed ≡ speed) × (r.gross ≡ gross)) result }
     {
-        Some(Running {
+        Ok(Running {
             speed: Speed::from_tenths(speed)?,
             gross: Gross::from_tenths(gross)?,
         })
@@ -117,7 +120,7 @@ pub trait Formula {
     ghost value: { Self → Self.Place → Ratio };
 
     /// The exact value at a place.
-    fn exactly(&self, at: Self::Place) -> ExactValue
+    fn exactly(&self, at: Self::Place) -> ExactValue<Self::Unit>
         ensures { result ≡ value self.now at };
 
     ghost proper: { (l : Self) (x : Self.Place) → Self.Place.in_range x → 1 ≤ (value l x).den };

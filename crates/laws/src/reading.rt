@@ -1,7 +1,7 @@
 ghost use Rattle.std.specs.Prelude.{◌≡◌, ◌≤◌};
 ghost use Rattle.rules.specs.Ratio.{rounded_down, rounded_up};
 ghost use Rattle.std.proofs.Common.{arith};
-ghost use Rattle.rules.proofs.Readings.{rounded_reads, looser};
+ghost use Rattle.rules.proofs.Readings.{rounded_reads};
 
 use crate::law::{Formula, Law};
 use units::{Amount, ExactValue};
@@ -17,13 +17,13 @@ pub struct Reading<U> {
     ghost most: { above ≤ 1000000 },
 }
 
-impl<U> From<ExactValue> for Reading<U> {
+impl<U> From<ExactValue<U>> for Reading<U> {
     ghost from_gives = { λ x r. (r.below ≡ rounded_down x) × (r.above ≡ rounded_up x) };
 
-    fn from(exact: ExactValue) -> Reading<U> {
+    fn from(exact: ExactValue<U>) -> Reading<U> {
         Reading {
-            below: Amount::new(exact.down()),
-            above: Amount::new(exact.up()),
+            below: exact.down(),
+            above: exact.up(),
         }
     }
 }
@@ -41,9 +41,7 @@ impl<F: Formula> Law for F {
 
     ghost slack = { λ _. 1 };
 
-    ghost reads = { λ l x h.
-        let r = rounded_reads _ (F.proper l x h) (F.most l x h) in
-        looser _ _ _ r (omega arith) (omega arith) (omega (arith, r.capped)) (omega (arith, r.close)) };
+    ghost reads = { λ l x h. rounded_reads _ (F.proper l x h) (F.most l x h) };
 
     fn read(&self, at: F::Place) -> Reading<F::Unit> {
         Reading::from(self.exactly(at))
@@ -53,3 +51,10 @@ impl<F: Formula> Law for F {
         Some(1)
     }
 }
+
+/// Of a law by a formula the whole values are its exact one rounded down and up, and its slack is 1.
+pub fn formulas_are_rounded<F: Formula>()
+    ensures below { (l : F) (x : F.Place) → ⟦<F as Law>⟧.low l x ≡ rounded_down (F.value l x) }
+    ensures above { (l : F) (x : F.Place) → ⟦<F as Law>⟧.high l x ≡ rounded_up (F.value l x) }
+    ensures slack { (l : F) → ⟦<F as Law>⟧.slack l ≡ 1 }
+{}

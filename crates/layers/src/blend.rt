@@ -42,7 +42,7 @@ impl<F: Law, S: Law<Unit = F::Unit, Place = F::Place>> Blend<F, S> {
     // The mixture of a whole value of each law, exactly. Their bounds are those of the readings which they come from: a type for
     // them would be one more wrapped number.
     #[tactic(auto, using(rules::proofs::Layers::mixture_within))]
-    fn mixture(&self, first: Amount<F::Unit>, second: Amount<F::Unit>) -> ExactValue
+    fn mixture(&self, first: Amount<F::Unit>, second: Amount<F::Unit>) -> ExactValue<F::Unit>
         requires first { first ≤ 1000000 }
         requires second { second ≤ 1000000 }
         ensures { result ≡ ratio (self.now.a * first + self.now.b * second) (self.now.a + self.now.b) }
@@ -72,8 +72,8 @@ impl<F: Law, S: Law<Unit = F::Unit, Place = F::Place>> Law for Blend<F, S> {
         let first = self.first.read(at);
         let second = self.second.read(at);
         Reading {
-            below: Amount::new(self.mixture(first.below, second.below).down()),
-            above: Amount::new(self.mixture(first.above, second.above).up()),
+            below: self.mixture(first.below, second.below).down(),
+            above: self.mixture(first.above, second.above).up(),
         }
     }
 

@@ -34,7 +34,7 @@ impl<L: Drop> Scale<L> {
 impl<L: Law> Scale<L> {
     // The share of a whole value, exactly. Its bound is that of the reading which it comes from: a type for it would be one more
     // wrapped number.
-    fn share(&self, whole: Amount<L::Unit>) -> ExactValue
+    fn share(&self, whole: Amount<L::Unit>) -> ExactValue<L::Unit>
         requires { whole ≤ 1000000 }
         ensures { result ≡ ratio (self.now.percent * whole) 100 }
     {
@@ -60,8 +60,8 @@ impl<L: Law> Law for Scale<L> {
     fn read(&self, at: L::Place) -> Reading<L::Unit> {
         let whole = self.base.read(at);
         Reading {
-            below: Amount::new(self.share(whole.below).down()),
-            above: Amount::new(self.share(whole.above).up()),
+            below: self.share(whole.below).down(),
+            above: self.share(whole.above).up(),
         }
     }
 

@@ -1,5 +1,5 @@
 -- The lowest grade of a window, section by section.
-use Rattle.std.proofs.Common.{◌≡◌, ℕ, ◌+◌, ◌<◌, Bool, true, false, cond, ◌&&◌, leb, List, [], ◌∷◌, map, length, get_or, drop, ℤ, pos, Some, None, Option, sym, refl, ap, ◌∙◌, arith}
+use Rattle.std.proofs.Common.{◌≡◌, ℕ, ◌+◌, ◌<◌, Bool, true, false, cond, ◌&&◌, leb, List, [], ◌∷◌, map, length, get_or, drop, ℤ, pos, negsuc, ◌≤ℤ◌, Some, None, Option, IfSome, sym, refl, ap, ◌∙◌, subst, arith}
 use Rattle.std.specs.Prelude.{MatchOption}
 use Rattle.std.specs.Int.{int_min}
 use Rattle.std.proofs.lemmas.Int.{ints, clamps}
@@ -16,6 +16,15 @@ lowest_with (Some g) gs = lowest int_min (pos 0) (g ∷ gs)
 -- r is the lower of a grade and the lowest before it, if any
 abbrev pub IsLowerOf : Option ℤ → ℤ → ℤ → Type 0
 IsLowerOf o g r = MatchOption o (r ≡ g) (λ old. r ≡ int_min old g)
+
+-- a grade of a section, as far as there is one, is -40,000 to 1,040,000
+abbrev pub InRange : Option ℤ → Type 0
+InRange o = IfSome o (λ g. (negsuc 39999 ≤ℤ g) × (g ≤ℤ pos 1040000))
+
+-- and so is the lower of two
+pub lower_in_range : (o : Option ℤ) (g r : ℤ) → InRange o → InRange (Some g) → IsLowerOf o g r → InRange (Some r)
+lower_in_range None g r some grade is = subst (λ (t : ℤ). InRange (Some t)) (sym is) grade
+lower_in_range (Some old) g r some grade is = (omega (arith, ints, clamps, is, some.0, grade.0), omega (arith, ints, clamps, is, some.1, grade.1))
 
 regroup : (a b c : ℤ) → int_min a (int_min b c) ≡ int_min (int_min a b) c
 regroup a b c = omega (arith, ints, clamps)

@@ -1,6 +1,8 @@
-ghost use Rattle.std.specs.Prelude.{◌≡◌, ◌≤◌, SomeIff};
+ghost use Rattle.std.specs.Prelude.{◌≡◌, ◌≤◌};
+ghost use Rattle.rules.specs.Refusals.{MadeOr};
 ghost use Rattle.line.specs.Curve.{curve_of, IsCurve};
 
+use rules::Refusal;
 use std::marker::Model;
 
 /// A curve: its length, 1 to 20,000 m, and its radius, 100 to 20,000 m.
@@ -23,14 +25,14 @@ impl Model for Curve {
 }
 
 impl Curve {
-    /// The curve of this length and radius; none where either is out of its range.
-    pub fn new(metres: u32, radius: u32) -> Option<Curve>
-        ensures { SomeIff result (IsCurve (curve_of metres radius)) (curve_of metres radius) }
+    /// The curve of this length and radius; refused with 4 where either is out of its range.
+    pub fn new(metres: u32, radius: u32) -> Result<Curve, Refusal>
+        ensures { MadeOr 4 (IsCurve (curve_of metres radius)) (λ c. c ≡ curve_of metres radius) result }
     {
         if (1..=20_000).contains(&metres) && (100..=20_000).contains(&radius) {
-            Some(Curve { metres, radius })
+            Ok(Curve { metres, radius })
         } else {
-            None
+            Err(Refusal::UnlawfulSection)
         }
     }
 

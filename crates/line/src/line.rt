@@ -4,28 +4,26 @@ ghost use Rattle.rules.specs.Questions.{appending, LawfulSections};
 ghost use Rattle.rules.specs.Refusals.{told, first_no, unless};
 ghost use Rattle.rules.specs.Window.{window};
 ghost use Rattle.std.specs.Int.{int_min};
-ghost use Rattle.std.specs.Prelude.{◌≡◌, ◌≤◌, [], ◌∷◌, ◌++◌, ◌&&◌, length, nat_le, slice_get, IfOk, MatchOption};
+ghost use Rattle.std.specs.Prelude.{◌≡◌, ◌≤◌, ◌≤ℤ◌, pos, negsuc, [], ◌∷◌, ◌++◌, ◌&&◌, length, nat_le, slice_get, MatchOption};
 
-use crate::section::Section;
+use crate::section::{Blank, Section};
+use arrayvec::ArrayVec;
 use rules::{Refusal, SectionFigures};
-use std::alloc::{AllocError, Global};
 use std::marker::Model;
 use units::Grade;
-
-// A consist holds its vehicles likewise. What both have in common is a `Vec` and two facts, and a list of limited room under
-// both would take more words than it saves.
-/// The sections of a line from its start, at most 200 and each of them lawful; the memory for them is reserved when the line
-/// is made.
-#[derive(Drop)]
-pub struct Line {
-    sections: Vec<Section>,
-}
 
 // How many sections a line may have.
 const MOST_SECTIONS: usize = 200;
 
+/// The sections of a line from its start, at most 200 and each of them lawful. They lie in the line itself, so that it wants
+/// no memory.
+#[derive(Drop)]
+pub struct Line {
+    sections: ArrayVec<Section, MOST_SECTIONS, Blank>,
+}
+
 impl Model for Line {
-    ghost use Rattle.std.specs.Prelude.{List, ◌≤◌, vec_len, vec_capacity};
+    ghost use Rattle.std.specs.Prelude.{List};
     ghost use Rattle.rules.specs.declared.figures.SectionFigures.{SectionFigures};
     ghost use Rattle.rules.specs.Questions.{LawfulSections};
 
@@ -33,17 +31,17 @@ impl Model for Line {
 
     ghost view = { λ l. l.sections.items };
 
-    ghost invariant = { λ l. (vec_len l.sections ≤ 200) × (200 ≤ vec_capacity l.sections) × LawfulSections l.sections.items };
+    ghost invariant = { λ l. LawfulSections l.sections.items };
 }
 
 impl Line {
     /// A line without sections.
-    pub fn new(heap: Global) -> Result<Line, AllocError>
-        ensures { IfOk result (λ l. l ≡ []) }
+    pub fn new() -> Line
+        ensures { result ≡ [] }
     {
-        Ok(Line {
-            sections: Vec::with_capacity(heap, MOST_SECTIONS)?,
-        })
+        Line {
+            sections: ArrayVec::new_in(Blank),
+        }
     }
 
     /// How many sections there are.
@@ -77,11 +75,9 @@ impl Line {
         ensures held { self.new ≡ unless (told result) (self.old ++ figures ∷ []) self.old }
     {
         let section = Section::try_from(figures)?;
-        if self.sections.len() >= MOST_SECTIONS {
-            return Err(Refusal::LineFull);
-        }
-        self.sections.push_reserved(section);
-        Ok(())
+        self.sections
+            .try_push(section)
+            .map_err(|_| Refusal::LineFull)
     }
 
     /// Lifts all sections.
@@ -96,13 +92,15 @@ impl Line {
         ensures value { result ≡ line_length self.now }
         ensures most { result ≤ 4000000 }
     {
-        self.sections.iter().map(|section| section.metres()).sum()
+        self.sections().iter().map(|section| section.metres()).sum()
     }
 
     /// The lowest low grade of the sections that share a point with the stretch from one place to another, every end
     /// counted; level where no section does.
     pub fn lowest_low_grade(&self, from: u32, to: u32) -> Grade
         ensures value { result ≡ lowest_low_grade (window from to self.now) }
+        ensures least { negsuc 39999 ≤ℤ result }
+        ensures most { result ≤ℤ pos 1040000 }
         ensures lawful { LawfulSections self.now }
     {
         let mut start: u32 = 0;

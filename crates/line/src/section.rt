@@ -2,12 +2,13 @@ ghost use Rattle.rules.specs.Grade.{low_grade, high_grade};
 ghost use Rattle.rules.specs.Questions.{lawful_section};
 ghost use Rattle.rules.specs.Ratio.{rounded_down, rounded_up};
 ghost use Rattle.std.specs.Int.{int_max};
-ghost use Rattle.std.specs.Prelude.{◌≡◌, ◌≤◌, ◌&&◌, not, ◌==◌, nat_le, int_le, pos, negsuc, ◌*ℤ◌, ◌+ℤ◌, IsTrue};
+ghost use Rattle.std.specs.Prelude.{◌≡◌, ◌≤◌, ◌&&◌, not, ◌==◌, nat_le, int_le, pos, negsuc, ◌*ℤ◌, ◌+ℤ◌, ◌≤ℤ◌, IsTrue};
 
 use crate::curve::Curve;
 use rules::{Refusal, SectionFigures};
+use std::default::MadeWith;
 use std::marker::Model;
-use units::{ExactValue, Grade};
+use units::{ExactValue, Grade, Milli, MilliPerTonne};
 
 /// One section of line: its length in metres, 1 to 20,000, its gradient in tenths of a per mille, -400 to 400, the curve
 /// that lies in it, if any, and whether there is a stop.
@@ -35,6 +36,21 @@ impl Model for Section {
     ghost inverse_ok = { section_of-figures_of };
 }
 
+// Makes the section that fills a place of a line where no section lies.
+#[derive(Clone, Copy)]
+pub(crate) struct Blank;
+
+impl MadeWith<Blank> for Section {
+    fn made_with(_blank: Blank) -> Section {
+        Section {
+            metres: 1,
+            gradient: 0,
+            curve: None,
+            stop: false,
+        }
+    }
+}
+
 impl TryFrom<SectionFigures> for Section {
     type Error = Refusal;
 
@@ -45,7 +61,7 @@ impl TryFrom<SectionFigures> for Section {
     fn try_from(figures: SectionFigures) -> Result<Section, Refusal> {
         let curve = match (figures.curve, figures.radius) {
             (0, 0) => None,
-            (metres, radius) => Some(Curve::new(metres, radius).ok_or(Refusal::UnlawfulSection)?),
+            (metres, radius) => Some(Curve::new(metres, radius)?),
         };
         if !is_in_range(figures) {
             return Err(Refusal::UnlawfulSection);
@@ -93,20 +109,22 @@ impl Section {
 
     /// The grade, its fraction of a milli rounded down.
     pub fn low_grade(&self) -> Grade
-        ensures { result ≡ low_grade self.now }
+        ensures value { result ≡ low_grade self.now }
+        ensures least { negsuc 39999 ≤ℤ result }
+        ensures most { result ≤ℤ pos 1040000 }
     {
-        Grade::from_milli(self.with_curve(self.curve_grade().down()))
+        self.with_curve(self.curve_grade().down())
     }
 
     /// The grade, its fraction of a milli rounded up; 0 where that is negative.
-    pub fn high_grade(&self) -> Grade
-        ensures { result ≡ high_grade self.now }
+    pub fn high_grade(&self) -> Milli
+        ensures { pos result ≡ high_grade self.now }
     {
-        Grade::from_milli(self.with_curve(self.curve_grade().up()).max(0))
+        self.with_curve(self.curve_grade().up()).positive_part()
     }
 
     // What the curve adds to the grade, in milli.
-    fn curve_grade(&self) -> ExactValue
+    fn curve_grade(&self) -> ExactValue<MilliPerTonne>
         ensures low { low_grade self.now ≡ pos 100 *ℤ self.now.gradient +ℤ pos (rounded_down result) }
         ensures high { high_grade self.now ≡ int_max (pos 100 *ℤ self.now.gradient +ℤ pos (rounded_up result)) (pos 0) }
     {
@@ -122,11 +140,13 @@ impl Section {
 
     // The grade of the gradient and of what the curve adds to it, in milli. The bound is that of an exact value: a type for it
     // would be one more wrapped number.
-    fn with_curve(&self, curve: u32) -> i32
+    fn with_curve(&self, curve: Milli) -> Grade
         requires { curve ≤ 1000000 }
-        ensures { result ≡ pos 100 *ℤ self.now.gradient +ℤ pos curve }
+        ensures value { result ≡ pos 100 *ℤ self.now.gradient +ℤ pos curve }
+        ensures least { negsuc 39999 ≤ℤ result }
+        ensures most { result ≤ℤ pos 1040000 }
     {
-        100 * self.gradient + curve as i32
+        Grade::of_gradient(self.gradient).plus(curve.signed())
     }
 }
 

@@ -12,7 +12,7 @@ pub use reply::print_reply;
 mod tests {
     use super::*;
     use history::Reply;
-    use rules::{Fault, Refusal, StopFigures};
+    use rules::{Fault, Refusal};
     use units::{Load, Speed};
 
     // What a buffer holds where nothing was printed.
@@ -27,21 +27,13 @@ mod tests {
 
     #[test]
     fn lines_are_printed(rt: HostRuntime) {
-        let stop = StopFigures {
-            distance: 24_917,
-            least: 74_250,
-            steps: 1,
-        };
-        let longest = StopFigures {
-            distance: u32::MAX,
-            least: u32::MAX,
-            steps: u32::MAX,
-        };
+        let stop = (24_917, 74_250, 1);
+        let longest = (u32::MAX, u32::MAX, u32::MAX);
         let replies: [(u32, Reply, &[u8]); 7] = [
             (1, Reply::Stops(stop), b"1 OK 24917 74250 1\n"),
             (
                 2,
-                Reply::Hauls(Load::from_tenths(26_000).unwrap()),
+                Reply::Hauls(Load::within_limit(26_000).unwrap()),
                 b"2 OK 26000\n",
             ),
             (3, Reply::Refused(Refusal::LineTooShort), b"3 NO 9\n"),

@@ -7,7 +7,7 @@ ghost use Rattle.printing.specs.Puts.{Puts};
 
 use crate::put::{ROOM, put_bytes, put_figure, put_number};
 use history::Reply;
-use rules::{Refusal, StopFigures};
+use rules::Refusal;
 
 /// Prints the reply to a question as a line, and answers how long the line is: the number of the question, then `OK` and the figures
 /// of the answer, or `NO` and the number of the refusal. A buffer of fewer than 64 bytes is refused and left as it was; in any other
@@ -62,15 +62,16 @@ fn put_outcome(out: &mut [u8], at: usize, reply: Reply) -> usize
 
 // Puts the figures of a stop.
 #[tactic(auto, using(crate::proofs::Puts::four_joined))]
-fn put_stop(out: &mut [u8], at: usize, figures: StopFigures) -> usize
+fn put_stop(out: &mut [u8], at: usize, figures: (u32, u32, u32)) -> usize
     requires { at + 36 ≤ length out.old }
-    ensures put { Puts (codes " " ++ outcome (stops figures.distance figures.least figures.steps)) at out.old result out.new }
+    ensures put { Puts (codes " " ++ outcome (stops figures.0 figures.1 figures.2)) at out.old result out.new }
     ensures short { result ≤ at + 36 }
 {
+    let (distance, least, steps) = figures;
     let at = put_bytes(out, at, b" OK");
-    let at = put_figure(out, at, figures.distance);
-    let at = put_figure(out, at, figures.least);
-    put_figure(out, at, figures.steps)
+    let at = put_figure(out, at, distance);
+    let at = put_figure(out, at, least);
+    put_figure(out, at, steps)
 }
 
 // Puts an answer of one figure.

@@ -65,7 +65,7 @@ impl Formula for PullTable {
 
     ghost most = { λ l v h. table_most v (points_of l) l.lawful };
 
-    fn exactly(&self, v: Speed) -> ExactValue {
+    fn exactly(&self, v: Speed) -> ExactValue<KilogramsForce> {
         let [first, rest @ ..] = self.points() else {
             unreachable!()
         };
@@ -87,7 +87,7 @@ impl FallingLaw for PullTable {
 }
 
 // The exact pull on the straight line from p to n.
-fn on_line(p: PointFigures, n: PointFigures, v: Speed) -> ExactValue
+fn on_line(p: PointFigures, n: PointFigures, v: Speed) -> ExactValue<KilogramsForce>
     requires { Between p n v }
     ensures { result ≡ between_points p n v }
 {
@@ -106,7 +106,7 @@ fn times_length(p: PointFigures, n: PointFigures, v: Speed) -> u64
 }
 
 // The exact pull from the last point on. The bound is that of a point of a table: a type for it would be one more wrapped number.
-fn past(p: PointFigures, v: Speed) -> ExactValue
+fn past(p: PointFigures, v: Speed) -> ExactValue<KilogramsForce>
     requires { p.value ≤ 1000000 }
     ensures { result ≡ pull_after p [] v }
 {

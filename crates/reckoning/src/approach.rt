@@ -1,4 +1,4 @@
-ghost use Rattle.std.specs.Prelude.{◌≡◌, ◌+◌, ◌*◌, ◌≤◌, [], nat_le, IfOk, IsTrue};
+ghost use Rattle.std.specs.Prelude.{◌≡◌, ◌+◌, ◌*◌, ◌≤◌, ◌≤ℤ◌, pos, negsuc, [], nat_le, IfOk};
 ghost use Rattle.rules.specs.Book.{per_wagon};
 ghost use Rattle.rules.specs.Questions.{braking, place_in_range, stop_figures};
 ghost use Rattle.rules.specs.Kind.{kind};
@@ -30,6 +30,8 @@ pub(crate) struct Approach {
     ghost light: { hauling + trailing ≤ 240000 },
     ghost pressed: { pressure ≤ hauling + trailing },
     ghost near: { reach ≤ 4000 },
+    ghost deep: { negsuc 39999 ≤ℤ lowest },
+    ghost high: { lowest ≤ℤ pos 1040000 },
 }
 
 impl Approach {
@@ -72,21 +74,20 @@ impl Approach {
         &self,
         stock: &S,
         v: Speed,
-    ) -> Result<(u64, u32, u32), Refusal>
+    ) -> Result<(u32, u32, u32), Refusal>
         ensures { stop_reply result ≡ decide (first_no (braking (approach_of self.now (S.meaning stock.now)) v [])) (stop_figures (kind K.T K.C) (approach_of self.now (S.meaning stock.now)) v) }
     {
         let train = Braking::new(*self, stock);
         let brake = train.strong_brake(v)?;
         let run = train.run(v)?;
-        Ok(train.figures::<K>(v, brake, run))
+        Ok(train.figures::<K>(v, brake, &run))
     }
 
     // Whether a distance in millimetres lies within the braking distance.
-    pub(crate) fn is_within_reach(&self, distance: u64) -> bool
-        ensures value { result ≡ nat_le distance (1000 * self.now.reach) }
-        ensures small { IsTrue result → distance ≤ 4000000 }
+    pub(crate) fn is_within_reach(&self, distance: u32) -> bool
+        ensures { result ≡ nat_le distance (1000 * self.now.reach) }
     {
-        distance <= 1000 * u64::from(self.reach)
+        distance <= 1000 * self.reach
     }
 }
 

@@ -1,15 +1,16 @@
-ghost use Rattle.std.specs.Prelude.{◌≡◌, ◌+◌, ◌*◌, ◌^◌, ◌<◌, ◌≤◌, min, nat_le};
+ghost use Rattle.std.specs.Prelude.{◌≡◌, ◌+◌, ◌*◌, ◌<◌, ◌≤◌, min};
 ghost use Rattle.rules.specs.Kind.{kind};
 ghost use Rattle.rules.specs.Stop.{brake_force, drag_in, train_drag, holding_force, delay_run, edge, step};
 ghost use Rattle.rules.specs.Ratio.{ratio};
 
 use crate::approach::Approach;
+use crate::brake_ratio::BrakeRatio;
 use crate::edges::edge;
 use crate::run::Run;
 use crate::step::Step;
 use laws::{BrakeKind, Running, StockLaws};
 use rules::Refusal;
-use units::{BrakeRatio, Milli, Speed};
+use units::{Milli, SpecificForce, Speed};
 
 // A train that brakes: what its approach reads of the sheet, how hard its blocks are pressed on, and the laws of its stock.
 #[derive(Drop)]
@@ -31,7 +32,7 @@ impl<'a, S: StockLaws> Braking<'a, S> {
         let weight = 10 * (approach.hauling + approach.trailing);
         Braking {
             approach,
-            pressing: BrakeRatio::new(pressed, weight).unwrap(),
+            pressing: BrakeRatio::new(pressed, weight),
             stock,
         }
     }
@@ -41,7 +42,7 @@ impl<'a, S: StockLaws> Braking<'a, S> {
     fn brake_force(&self, v: Speed) -> Milli
         ensures { result ≡ brake_force (train_of S.meaning self.now) v }
     {
-        self.stock.friction_below(v).braking(self.pressing)
+        self.pressing.force(self.stock.friction_below(v))
     }
 
     // The brake force at the speed from which a train stops; refused where it is weak.
@@ -92,30 +93,33 @@ impl<'a, S: StockLaws> Braking<'a, S> {
         }
     }
 
-    // The force that holds the train back in a step, in milli; the brake force is that at its upper speed.
+    // The force that holds the train back in a step; the brake force is that at its upper speed.
     #[tactic(auto, unfolding(rules::specs::Stop::holding_force))]
-    fn holding(&self, step: Step) -> i64
+    fn holding(&self, step: Step) -> SpecificForce
         ensures { result ≡ holding_force (train_of S.meaning self.now) step }
     {
-        self.approach
-            .lowest
-            .holding_milli(self.brake_force(step.top()), self.drag(step))
+        let brake = self.brake_force(step.top());
+        let drag = self.drag(step);
+        brake
+            .signed()
+            .plus(drag.signed())
+            .plus(self.approach.lowest)
     }
 
     // The run from a speed: one step down to the edge where a run begins, and that run; refused where the train is not held in
     // that step. In line, since loops are made of it.
     #[inline(always)]
-    pub(crate) fn run_over(&self, below: Run, v: Speed) -> Result<Run, Refusal>
-        requires few { below.steps ≤ 26 }
-        requires above { edge below.steps ≤ v }
-        ensures { StepAdded (holding_force (train_of S.meaning self.now)) (step v (edge below.steps)) below result }
+    pub(crate) fn run_over(&self, below: &Run, v: Speed) -> Result<Run, Refusal>
+        requires few { below.now.steps ≤ 26 }
+        requires above { edge below.now.steps ≤ v }
+        ensures { StepAdded (holding_force (train_of S.meaning self.now)) (step v (edge below.now.steps)) below.now result }
     {
         let step = Step::new(v, edge(below.steps));
         let force = self.holding(step);
-        if force < 1000 {
+        if force.milli() < 1000 {
             return Err(Refusal::WeakStep);
         }
-        Ok(below.with(step, force as u64))
+        Ok(below.with(step, force))
     }
 
     // The steps of a stop from a speed, from the lowest one on; refused where the train is not held in one.
@@ -125,38 +129,38 @@ impl<'a, S: StockLaws> Braking<'a, S> {
     {
         let mut run = Run::none();
         while edge(run.steps) < v {
-            run = self.climb(run, v)?;
+            run = self.climb(&run, v)?;
         }
         Ok(run)
     }
 
     // The lowest steps of a stop from a speed, one more than in a run: up to the next edge, or to that speed.
     #[tactic(auto, using(crate::proofs::Brakings::again, crate::proofs::Brakings::gives_way))]
-    fn climb(&self, run: Run, v: Speed) -> Result<Run, Refusal>
-        requires climbs { Climbs (holding_force (train_of S.meaning self.now)) v run }
-        requires below { edge run.steps < v }
-        ensures { Climbed (holding_force (train_of S.meaning self.now)) v run result }
+    fn climb(&self, run: &Run, v: Speed) -> Result<Run, Refusal>
+        requires climbs { Climbs (holding_force (train_of S.meaning self.now)) v run.now }
+        requires below { edge run.now.steps < v }
+        ensures { Climbed (holding_force (train_of S.meaning self.now)) v run.now result }
     {
         self.run_over(run, edge(run.steps + 1).min(v))
     }
 
     // The figures of a stop from a speed, by its brake force and its run: the distance in millimetres, with what the train runs
     // before the brakes hold; the least force in milli; and the number of steps.
-    pub(crate) fn figures<K: BrakeKind>(&self, v: Speed, brake: Milli, run: Run) -> (u64, u32, u32)
-        requires { 1 ≤ brake }
-        ensures { result ≡ (delay_run (kind K.T K.C) v brake self.now.approach.lowest + run.distance, min run.least brake, run.steps) }
+    #[tactic(auto, using(crate::proofs::Bounds::delay_most))]
+    pub(crate) fn figures<K: BrakeKind>(&self, v: Speed, brake: Milli, run: &Run) -> (u32, u32, u32)
+        requires { 1000 ≤ brake }
+        ensures { result ≡ (delay_run (kind K.T K.C) v brake self.now.approach.lowest + run.now.distance, min run.now.least brake, run.now.steps) }
     {
-        let distance = self.delay::<K>(v, brake) + run.distance;
-        let least = run.least.min(u64::from(brake.count()));
-        (distance, least as u32, run.steps)
+        let distance = self.delay::<K>(v, brake) as u32 + run.distance;
+        let least = run.least.min(brake);
+        (distance, least.count(), run.steps)
     }
 
     // The distance in millimetres that the train runs before the brakes hold.
-    #[tactic(auto, using(crate::proofs::Bounds::delay_small, crate::proofs::Bounds::quotient_small), unfolding(rules::specs::Stop::delay_run))]
+    #[tactic(auto, using(crate::proofs::Bounds::delay_small), unfolding(rules::specs::Stop::delay_run))]
     fn delay<K: BrakeKind>(&self, v: Speed, brake: Milli) -> u64
-        requires { 1 ≤ brake }
-        ensures value { result ≡ delay_run (kind K.T K.C) v brake self.now.approach.lowest }
-        ensures small { result ≤ 1600 * (180000 * 2 ^ 32) }
+        requires { 1000 ≤ brake }
+        ensures { result ≡ delay_run (kind K.T K.C) v brake self.now.approach.lowest }
     {
         let brake = u64::from(brake.count());
         let fall = u64::from(self.approach.lowest.fall().count());

@@ -4,6 +4,7 @@
 
 pub mod allowances;
 mod approach;
+mod brake_ratio;
 mod braking;
 mod edges;
 pub mod questions;

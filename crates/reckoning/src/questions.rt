@@ -25,13 +25,14 @@ pub fn stop<K: BrakeKind, S: StockLaws>(
     ensures safe { IfOk result (λ t. NoFinerIsLonger (kind K.T K.C) (S.meaning stock.now) sheet.now question (figures t)) }
     ensures close { IfOk result (λ t. SurplusIsBounded (kind K.T K.C) (S.meaning stock.now) sheet.now question (figures t)) }
 {
-    let v = Speed::from_tenths(question.speed).ok_or(Refusal::QuestionOutOfRange)?;
+    let v = Speed::from_tenths(question.speed)?;
     let approach = Approach::of(sheet, question.place, question.factor)?;
-    let (distance, least, steps) = approach.reckon::<K, S>(stock, v)?;
+    let figures = approach.reckon::<K, S>(stock, v)?;
+    let (distance, _, _) = figures;
     if !approach.is_within_reach(distance) {
         return Err(Refusal::StopsTooFar);
     }
-    Ok((distance as u32, least, steps))
+    Ok(figures)
 }
 
 /// How fast the train of a sheet may go at a place, with the kind of brake K and the laws of a stock: the greatest multiple of 5 km/h

@@ -36,7 +36,7 @@ fn last_in_time<K: BrakeKind, S: StockLaws>(train: &Braking<S>) -> Speed
     let mut greatest = Speed::capped(0);
     let mut below = Run::none();
     while let Some(next) = faster(greatest) {
-        let Ok(run) = run_in_time::<K, S>(train, below, next) else {
+        let Ok(run) = run_in_time::<K, S>(train, &below, next) else {
             return greatest;
         };
         greatest = next;
@@ -49,15 +49,15 @@ fn last_in_time<K: BrakeKind, S: StockLaws>(train: &Braking<S>) -> Speed
 #[tactic(auto, using(crate::proofs::Brakings::room, crate::proofs::Brakings::reaches, crate::proofs::Brakings::stays_weak), unfolding(crate::specs::Speeds::is_answered))]
 fn run_in_time<K: BrakeKind, S: StockLaws>(
     train: &Braking<S>,
-    below: Run,
+    below: &Run,
     v: Speed,
 ) -> Result<Run, Refusal>
-    requires { IsBelow (holding_force (train_of S.meaning train.now)) v below }
+    requires { IsBelow (holding_force (train_of S.meaning train.now)) v below.now }
     ensures { RunInTime (kind K.T K.C) (train_of S.meaning train.now) v result }
 {
     let brake = train.strong_brake(v)?;
     let run = train.run_over(below, v)?;
-    let (distance, _, _) = train.figures::<K>(v, brake, run);
+    let (distance, _, _) = train.figures::<K>(v, brake, &run);
     if !train.approach.is_within_reach(distance) {
         return Err(Refusal::StopsTooFar);
     }
@@ -76,5 +76,5 @@ fn from_edge(below: Run, run: Run, v: Speed) -> Run
 fn faster(v: Speed) -> Option<Speed>
     ensures { MatchOption result (1600 < v + 50) (λ w. w ≡ v + 50) }
 {
-    Speed::from_tenths(v.tenths() + 50)
+    Speed::from_tenths(v.tenths() + 50).ok()
 }

@@ -1,9 +1,10 @@
-ghost use Rattle.std.specs.Prelude.{◌≡◌, ◌≤◌};
+ghost use Rattle.std.specs.Prelude.{◌≡◌, ◌≤◌, ◌≤ℤ◌, pos};
+ghost use Rattle.rules.specs.Fraction.{natural_of};
 ghost use Rattle.reckoning.specs.Bounds.{step_limit};
 ghost use Rattle.rules.specs.Stop.{step, braking_run};
 
 use std::marker::Model;
-use units::Speed;
+use units::{SpecificForce, Speed};
 
 /// One step of a stop: from a speed down to the next lower edge.
 #[derive(Clone, Copy)]
@@ -48,15 +49,16 @@ impl Step {
         self.bottom
     }
 
-    // The distance in millimetres of the step under a force in milli.
+    // The distance in millimetres of the step under a force of at least 1 kgf/t.
     #[tactic(auto, unfolding(rules::specs::Stop::braking_run))]
-    pub(crate) fn run(self, force: u64) -> u64
-        requires { 1 ≤ force }
-        ensures value { result ≡ braking_run self force }
+    pub(crate) fn run(self, force: SpecificForce) -> u32
+        requires { pos 1000 ≤ℤ force }
+        ensures value { result ≡ braking_run self (natural_of force) }
         ensures small { result ≤ step_limit }
     {
         let top = u64::from(self.top.tenths());
         let bottom = u64::from(self.bottom.tenths());
-        (41_700 * (top * top - bottom * bottom)).div_ceil(force)
+        let work = 41_700 * (top * top - bottom * bottom);
+        work.div_ceil(force.milli() as u64) as u32
     }
 }

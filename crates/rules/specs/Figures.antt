@@ -17,7 +17,7 @@ use Rattle.rules.specs.Finer.{finer_distance}
 use Rattle.rules.specs.Promises.{promised_surplus}
 use Rattle.rules.specs.Allowance.{allowance}
 use Rattle.rules.specs.Given.{straight_section}
-use Rattle.rules.specs.Sample.{long_section, example_book, full_pull, example_pull, example_stock, example_stop, example_speed, example_mass}
+use Rattle.rules.specs.Sample.{long_section, example_book, full_pull, example_pull, example_stock, example_stop, example_speed, example_mass, six_locomotives, train_hauls}
 use Rattle.rules.specs.Examples.{stretch, example_approach, five_parts}
 
 -- x is rounded down to lo and up to hi
@@ -38,9 +38,12 @@ level_window = stop_window (example_book (pos 0)) 0
 abbrev pub level_stop : StopFigures
 level_stop = record { distance = 24917; least = 74250; steps = 1 }
 
--- a climb of 8 per mille, by its stop mark
+-- a climb of 8 per mille, and one of 15, each by its stop mark
 abbrev pub climb : ℕ → SectionFigures
 climb mark = record (long_section (pos 80)) { stop = mark }
+
+abbrev pub steep_climb : ℕ → SectionFigures
+steep_climb mark = record (long_section (pos 150)) { stop = mark }
 
 -- a length in millimetres, in thousandths of them and rounded down
 abbrev pub micrometres : Fraction → ℤ
@@ -77,3 +80,7 @@ pub record CheckedFigures : Type 0 where
   pub hauled_on_a_climb : example_mass full_pull (climb 0 ∷ []) ≡ hauls 29000
   pub hauled_from_a_stop : example_mass full_pull (climb 1 ∷ []) ≡ hauls 28000
   pub hauled_by_less : example_mass example_pull (straight_section 1500 (pos 0) ∷ straight_section 1500 (pos 80) ∷ []) ≡ hauls 26000
+  -- what six locomotives haul by their whole pull on a climb of 15 per mille: as much as a coupler takes, and from a stand what it
+  -- takes there
+  pub hauled_by_coupler : train_hauls six_locomotives full_pull (steep_climb 0 ∷ []) ≡ hauls 76500
+  pub hauled_by_coupler_from_a_stop : train_hauls six_locomotives full_pull (steep_climb 1 ∷ []) ≡ hauls 45500

@@ -27,10 +27,14 @@ abbrev pub told : {X : Type 0} → Result X Refusal → Option ℕ
 told (Ok x) = None
 told (Err e) = Some (number_of e)
 
--- what a maker of a law or a layer answers: what it makes where the figures are lawful, else refusal 14 alone
+-- what a maker answers: what it makes where the figures are lawful, else the refusal n alone
+abbrev pub MadeOr : {X : Type 0} → ℕ → Type 0 → (X → Type 0) → Result X Refusal → Type 0
+MadeOr n Lawful Made (Ok x) = Lawful × Made x
+MadeOr n Lawful Made (Err e) = (number_of e ≡ n) × (Lawful → ⊥)
+
+-- a maker of a law or a layer refuses with 14
 abbrev pub MadeIf : {X : Type 0} → Type 0 → (X → Type 0) → Result X Refusal → Type 0
-MadeIf Lawful Made (Ok x) = Lawful × Made x
-MadeIf Lawful Made (Err e) = (number_of e ≡ 14) × (Lawful → ⊥)
+MadeIf Lawful Made r = MadeOr 14 Lawful Made r
 
 -- a question with its number
 pub record Question : Type 0 where

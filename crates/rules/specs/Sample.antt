@@ -15,11 +15,18 @@ use Rattle.rules.specs.Mass.{asked_for_mass}
 use Rattle.rules.specs.Speed.{asked_for_speed}
 use Rattle.rules.specs.Refusals.{Reply, first_no, unless}
 
+-- a locomotive of 100 t with its brake in
+abbrev pub example_locomotive : Vehicle
+example_locomotive = vehicle (record { letter = 76; mass = 1000; pressure = 400 }) true
+
+-- it and a wagon of 60 t
 abbrev pub example_train : List Vehicle
-example_train =
-    vehicle (record { letter = 76; mass = 1000; pressure = 400 }) true
-    ∷ vehicle (record { letter = 87; mass = 600; pressure = 200 }) true
-    ∷ []
+example_train = example_locomotive ∷ vehicle (record { letter = 87; mass = 600; pressure = 200 }) true ∷ []
+
+-- six such locomotives, which pull more than a coupler takes
+abbrev pub six_locomotives : List Vehicle
+six_locomotives =
+    example_locomotive ∷ example_locomotive ∷ example_locomotive ∷ example_locomotive ∷ example_locomotive ∷ example_locomotive ∷ []
 
 -- 3,000 m of a gradient, straight and without a stop
 abbrev pub long_section : ℤ → SectionFigures
@@ -53,6 +60,9 @@ example_stop pull b speed = asked_to_stop freight (example_stock pull) b 0 speed
 abbrev pub example_speed : Falling → Book → Reply
 example_speed pull b = asked_for_speed freight (example_stock pull) b (record { place = 0; factor = 10 })
 
--- the mass that is asked for over some sections, at 20 km/h and wagons of 60 t
+-- the mass that is asked for over some sections, at 20 km/h and wagons of 60 t: of a train, and of the example
+abbrev pub train_hauls : List Vehicle → Falling → List SectionFigures → Reply
+train_hauls vs pull fs = asked_for_mass (example_stock pull) (book vs fs 1000) (record { speed = 200; gross = 600 })
+
 abbrev pub example_mass : Falling → List SectionFigures → Reply
-example_mass pull fs = asked_for_mass (example_stock pull) (book example_train fs 1000) (record { speed = 200; gross = 600 })
+example_mass = train_hauls example_train

@@ -77,7 +77,7 @@ impl fmt::Display for SectionFigures {
 }
 
 /// The figures of a point of a pull table as they are given: a speed in tenths of km/h and the pull there in kgf.
-#[derive(Clone, Copy, PartialEq, Eq, Debug)]
+#[derive(Clone, Copy, PartialEq, Eq, Debug, Default)]
 pub struct PointFigures {
     pub speed: u32,
     pub value: u32,
@@ -94,7 +94,7 @@ impl PointFigures {
 
 /// The figures of a stop question as they are given: a place in metres from the start of the line, a speed in tenths of km/h,
 /// and a factor in tenths of full braking.
-#[derive(Clone, Copy, PartialEq, Eq, Debug)]
+#[derive(Clone, Copy, PartialEq, Eq, Debug, Default)]
 pub struct StopQuestion {
     pub place: u32,
     pub speed: u32,
@@ -167,6 +167,13 @@ pub enum Question {
     Stop(StopQuestion),
     Speed(SpeedQuestion),
     Mass(MassQuestion),
+}
+
+impl Default for Question {
+    // A stop of no figures, which is out of range.
+    fn default() -> Question {
+        Question::Stop(StopQuestion::default())
+    }
 }
 
 impl fmt::Display for Question {

@@ -78,14 +78,14 @@ impl Store<Head> for Option<Head> {
     }
 }
 
-/// Reads the section RUN, which has one line.
-pub(crate) fn read_head(text: &mut Text) -> Result<Head, Fault>
+/// Reads the section RUN, which has one line: what this says, and the text behind the section.
+pub(crate) fn read_head(text: Text) -> Result<(Head, Text), Fault>
     ensures { MatchResult result
-        (λ h. Read head_sort text.old.rest (h ∷ []) text.new.rest × (text.new.line ≡ text.old.line + 2))
-        (λ f. (right : ℕ) × Wrong head_sort text.old.rest right f.refusal × (f.line ≡ text.old.line + (right + 1))) }
+        (λ p. Read head_sort text.entry.rest (p.0 ∷ []) p.1.rest × (p.1.line ≡ text.entry.line + 2))
+        (λ f. (right : ℕ) × Wrong head_sort text.entry.rest right f.refusal × (f.line ≡ text.entry.line + (right + 1))) }
 {
     let mut head = None;
-    text.section::<Head, Option<Head>>(&mut head)?;
+    let text = text.section::<Head, Option<Head>>(&mut head)?;
     let Some(head) = head else { unreachable!() };
-    Ok(head)
+    Ok((head, text))
 }

@@ -1,10 +1,10 @@
-ghost use Rattle.std.specs.Prelude.{◌≡◌, ◌≤◌, List, [], vec_len, vec_capacity, IfOk};
+ghost use Rattle.std.specs.Prelude.{◌≡◌, List, []};
 ghost use Rattle.rules.specs.declared.figures.PointFigures.{PointFigures as GivenPoint};
 ghost use Rattle.runfile.specs.Sorts.{point_sort};
 
+use arrayvec::ArrayVec;
 use pull_table::{MOST_POINTS, first_break};
 use rules::{Fault, PointFigures, Refusal};
-use std::alloc::{AllocError, Global};
 use std::marker::Model;
 use text::{Entry, Malformed, Store, pair};
 
@@ -43,27 +43,26 @@ impl Entry for PointLine {
     }
 }
 
-/// The points of a pull table as far as they are read, at most 16; the memory for them is reserved when this is made.
+/// The points of a pull table as far as they are read, at most 16. They lie in the value itself, which wants no memory.
 #[derive(Drop)]
 pub struct Points {
-    points: Vec<PointFigures>,
+    points: ArrayVec<PointFigures, MOST_POINTS>,
 }
 
 impl Model for Points {
     ghost Value = { List GivenPoint };
 
     ghost view = { λ p. p.points.items };
-
-    ghost invariant = { λ p. (vec_len p.points ≤ 16) × (16 ≤ vec_capacity p.points) };
 }
 
 impl Points {
-    /// Room for points, without any.
-    pub fn new(heap: Global) -> Result<Points, AllocError>
-        ensures { IfOk result (λ p. p ≡ []) }
+    /// No points yet.
+    pub fn new() -> Points
+        ensures { result ≡ [] }
     {
-        let points = Vec::with_capacity(heap, MOST_POINTS)?;
-        Ok(Points { points })
+        Points {
+            points: ArrayVec::new(),
+        }
     }
 
     /// The points in order.
@@ -84,10 +83,9 @@ impl Store<PointLine> for Points {
     }
 
     fn store(&mut self, line: PointLine) -> Result<(), Refusal> {
-        if self.points.len() >= MOST_POINTS {
-            return Err(Refusal::UnlawfulLaw);
-        }
-        self.points.push_reserved(line.figures);
+        self.points
+            .try_push(line.figures)
+            .map_err(|_| Refusal::UnlawfulLaw)?;
         if first_break(&self.points).is_some() {
             self.points.pop();
             return Err(Refusal::UnlawfulLaw);

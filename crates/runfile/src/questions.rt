@@ -1,11 +1,11 @@
-ghost use Rattle.std.specs.Prelude.{◌≡◌, ◌≤◌, List, [], length, vec_len, vec_capacity, IfOk};
+ghost use Rattle.std.specs.Prelude.{◌≡◌, ◌≤◌, List, [], length};
 ghost use Rattle.rules.specs.declared.figures.Question.{Question as Asked};
 ghost use Rattle.runfile.specs.Sorts.{question_sort};
 ghost use Rattle.text.specs.Numerals.{LineRead};
 ghost use Rattle.text.specs.Sorts.{Says};
 
+use arrayvec::ArrayVec;
 use rules::{Fault, MassQuestion, Question, Refusal, SpeedQuestion, StopQuestion};
-use std::alloc::{AllocError, Global};
 use std::marker::Model;
 use text::{Entry, Malformed, Store, pair, triple};
 
@@ -75,27 +75,26 @@ impl Entry for QuestionLine {
     }
 }
 
-/// The questions of a run file in their order, at most 200; the memory for them is reserved when this is made.
+/// The questions of a run file in their order, at most 200. They lie in the value itself, which wants no memory.
 #[derive(Drop)]
 pub struct Questions {
-    questions: Vec<Question>,
+    questions: ArrayVec<Question, MOST_QUESTIONS>,
 }
 
 impl Model for Questions {
     ghost Value = { List Asked };
 
     ghost view = { λ q. q.questions.items };
-
-    ghost invariant = { λ q. (vec_len q.questions ≤ 200) × (200 ≤ vec_capacity q.questions) };
 }
 
 impl Questions {
-    /// Room for questions, without any.
-    pub fn new(heap: Global) -> Result<Questions, AllocError>
-        ensures { IfOk result (λ q. q ≡ []) }
+    /// No questions yet.
+    pub fn new() -> Questions
+        ensures { result ≡ [] }
     {
-        let questions = Vec::with_capacity(heap, MOST_QUESTIONS)?;
-        Ok(Questions { questions })
+        Questions {
+            questions: ArrayVec::new(),
+        }
     }
 
     /// The questions in order.
@@ -117,10 +116,8 @@ impl Store<QuestionLine> for Questions {
     }
 
     fn store(&mut self, line: QuestionLine) -> Result<(), Refusal> {
-        if self.questions.len() >= MOST_QUESTIONS {
-            return Err(Refusal::QuestionOutOfRange);
-        }
-        self.questions.push_reserved(line.question);
-        Ok(())
+        self.questions
+            .try_push(line.question)
+            .map_err(|_| Refusal::QuestionOutOfRange)
     }
 }

@@ -1,4 +1,4 @@
-ghost use Rattle.std.specs.Prelude.{◌≡◌, ◌≤◌, true, ⊤, [], length, Some, None, Ok, Err, IfOk, MatchResult, Option};
+ghost use Rattle.std.specs.Prelude.{◌≡◌, ◌≤◌, true, ⊤, [], length, Some, None, Ok, Err, MatchResult, Option};
 ghost use Rattle.std.specs.Option.{option_map, IfSome};
 ghost use Rattle.rules.specs.declared.fault.Fault.{Fault as FileFault};
 ghost use Rattle.rules.specs.Book.{Book};
@@ -17,12 +17,11 @@ use laws::KindLetter;
 use pull_table::PullTable;
 use rules::{Fault, Question};
 use sheet::Sheet;
-use std::alloc::{AllocError, Global};
 use std::marker::Model;
 use text::Text;
 
 /// What was read of a run file beside the sheet: the kind of brake, the points of the pull table, and the questions; nothing
-/// where no file was read yet, or the last one was refused. The memory is reserved when this is made.
+/// where no file was read yet, or the last one was refused. All of it lies in the value itself.
 #[derive(Drop)]
 pub struct RunFile {
     kind: Option<KindLetter>,
@@ -39,17 +38,15 @@ impl Model for RunFile {
 }
 
 impl RunFile {
-    /// Room for what a run file says; nothing is read yet. Only this call can want memory.
-    pub fn new(heap: Global) -> Result<RunFile, AllocError>
-        ensures { IfOk result (λ f. f ≡ None) }
+    /// A record that has read no file.
+    pub fn new() -> RunFile
+        ensures { result ≡ None }
     {
-        let points = Points::new(heap)?;
-        let questions = Questions::new(heap)?;
-        Ok(RunFile {
+        RunFile {
             kind: None,
-            points,
-            questions,
-        })
+            points: Points::new(),
+            questions: Questions::new(),
+        }
     }
 
     /// The kind of brake of the file.
@@ -132,15 +129,14 @@ fn read_sections(
 ) -> Result<KindLetter, Fault>
     ensures { MatchResult result (λ k. IsRun text.now (request k points.new questions.new) sheet.new) (IsFault text.now) }
 {
-    let mut text = Text::of(text)?;
-    let head = read_head(&mut text)?;
+    let (head, text) = read_head(Text::of(text)?)?;
     let Ok(()) = sheet.set_distance(head.distance) else {
         unreachable!()
     };
-    text.section::<PointLine, Points>(points)?;
-    text.section::<VehicleLine, Sheet>(sheet)?;
-    text.section::<SectionLine, Sheet>(sheet)?;
-    text.section::<QuestionLine, Questions>(questions)?;
+    let text = text.section::<PointLine, Points>(points)?;
+    let text = text.section::<VehicleLine, Sheet>(sheet)?;
+    let text = text.section::<SectionLine, Sheet>(sheet)?;
+    let text = text.section::<QuestionLine, Questions>(questions)?;
     text.end()?;
     Ok(head.kind)
 }

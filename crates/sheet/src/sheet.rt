@@ -1,11 +1,10 @@
-ghost use Rattle.std.specs.Prelude.{◌≡◌, ◌≤◌, true, false, [], length, slice_get, IfOk};
+ghost use Rattle.std.specs.Prelude.{◌≡◌, ◌≤◌, true, false, [], length, slice_get};
 ghost use Rattle.rules.specs.Book.{Book, book, new_book, coupled, uncoupled, cut_out, restored, appended, lifted, with_distance, OnlyBrakeOf};
 ghost use Rattle.rules.specs.Questions.{coupling, vehicle_there, appending, setting_distance};
 ghost use Rattle.rules.specs.Refusals.{told, first_no, unless};
 
 use line::{Line, Section};
 use rules::{Refusal, SectionFigures, VehicleFigures};
-use std::alloc::{AllocError, Global};
 use std::marker::Model;
 use train::{Consist, Vehicle};
 
@@ -39,17 +38,15 @@ pub fn check_distance(metres: u32) -> Result<(), Refusal>
 }
 
 impl Sheet {
-    /// A new sheet: no vehicle, no section, and a braking distance of 1,000 m. Only this call can want memory.
-    pub fn new(heap: Global) -> Result<Sheet, AllocError>
-        ensures { IfOk result (λ s. s ≡ new_book) }
+    /// A new sheet: no vehicle, no section, and a braking distance of 1,000 m.
+    pub fn new() -> Sheet
+        ensures { result ≡ new_book }
     {
-        let consist = Consist::new(heap)?;
-        let line = Line::new(heap)?;
-        Ok(Sheet {
-            consist,
-            line,
+        Sheet {
+            consist: Consist::new(),
+            line: Line::new(),
             distance: NEW_DISTANCE,
-        })
+        }
     }
 
     /// Empties the sheet, so that it is as a new one.

@@ -1,7 +1,8 @@
 -- A section grows by an entry, and is complete after those that are due.
-use Rattle.std.proofs.Common.{◌≡◌, ℕ, List, [], ◌∷◌, ◌++◌, length, decimal, sym, ◌∙◌, subst}
+use Rattle.std.proofs.Common.{◌≡◌, ℕ, List, [], ◌∷◌, ◌++◌, ◌+◌, length, decimal, sym, refl, ◌∙◌, subst, inr}
 use Rattle.std.proofs.lemmas.List.{append_assoc, append-nil, append_cancel_left, flat_map_more}
-use Rattle.text.specs.Sorts.{Sort, heading, headings, lines, Proper, Next, Begins, Read, Allowed}
+use Rattle.rules.specs.declared.refusal.Refusal.{Refusal}
+use Rattle.text.specs.Sorts.{Sort, heading, headings, lines, Proper, Next, Begins, EntriesFault, Read, Wrong, LinesSay, Allowed}
 
 module _ {X : Type 0} (s : Sort X) where
   lines_push : (xs : List X) (x : X) → lines s (xs ++ x ∷ []) ≡ lines s xs ++ (s.written x ++ 10 ∷ [])
@@ -33,6 +34,24 @@ module _ {X : Type 0} (s : Sort X) where
         good = record { allowed = subst (Allowed s) (sym len) head.lawful; proper = begins.proper };
         section = subst (λ k. text ≡ (heading s.name k ++ 10 ∷ lines s xs) ++ rest) (sym len) cc;
       }
+
+  -- behind a heading and these entries a line is at fault
+  pub wrong_entry : (text entries : List ℕ) (due : ℕ) (xs : List X) (why : Refusal) → Next (headings s) [] text due entries
+      → (e : EntriesFault s entries due (length xs) why) → e.done ≡ xs
+      → Wrong s text (length xs + 1) why × LinesSay s text (length xs + 1) xs
+  wrong_entry text entries due xs why head e same = (
+    inr (record { due = due; entries = entries; begins = head; done = length xs; fault = e; counted = refl }),
+    inr (
+      refl,
+      record {
+        due = due;
+        entries = entries;
+        rest = e.rest;
+        heading = head;
+        begins = subst (λ ys. Begins s entries ys e.rest) same e.begins;
+      },
+    ),
+  )
 
 -- what stands after the name in a heading is the numeral of its count
 pub count_of : (name rest line : List ℕ) (n : ℕ) → line ≡ name ++ 32 ∷ rest → line ≡ heading name n → rest ≡ decimal n

@@ -5,7 +5,7 @@ use Rattle.std.proofs.ByRecursion.{All-append}
 use Rattle.rules.specs.declared.refusal.Refusal.{Refusal}
 use Rattle.text.specs.Numerals.{Lacks, Cut}
 use Rattle.text.specs.Texts.{NoLine}
-use Rattle.text.specs.Sorts.{Sort, heading, headings, Next, NextFault, lines, Proper, Read, Wrong}
+use Rattle.text.specs.Sorts.{Sort, heading, headings, Next, NextFault, lines, Proper, Read, Wrong, LinesSay}
 use Rattle.text.proofs.Clear.{Clear}
 use Rattle.text.proofs.Numerals.{numeral_same}
 use Rattle.text.proofs.Cuts.{same_cut, not_lacks, decimal_lacks}
@@ -168,3 +168,15 @@ wrong_same s clear t right left why because (inr w) (inr v) =
     entries_fault_same s clear [] a.done b.done w.entries a.rest b.rest why because
     a.begins.proper a.begins.lines a.fault b.begins.proper (n.1 ∙ b.begins.lines) b.fault in
     (omega (arith, one.0, a.counted, b.counted, w.counted, v.counted), one.1)
+
+pub lines_say_same : {X : Type 0} (s : Sort X) → Clear s → (t : List ℕ) (right : ℕ) (xs ys : List X)
+    → LinesSay s t right xs → LinesSay s t right ys → xs ≡ ys
+lines_say_same s clear t right xs ys (inl (e, none)) (inl (f, nil)) = none ∙ sym nil
+lines_say_same s clear t right xs ys (inl (e, none)) (inr (f, k)) = absurd (omega arith)
+lines_say_same s clear t right xs ys (inr (e, h)) (inl (f, nil)) = absurd (omega arith)
+lines_say_same s clear t right xs ys (inr (e, h)) (inr (f, k)) =
+    let n = next_same (headings s) (heads s clear) [] [] t _ _ _ _ h.heading k.heading in
+    let same =
+    entries_same s clear [] xs ys h.entries h.rest k.rest h.begins.proper k.begins.proper (omega arith) h.begins.lines
+    (n.1 ∙ k.begins.lines) in
+    same.0

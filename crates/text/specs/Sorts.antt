@@ -121,3 +121,16 @@ pub record EntryFault {X : Type 0} (s : Sort X) (text : List ℕ) (right : ℕ) 
 -- the text begins with `right` lines of a section that have nothing wrong, and the next is at fault: the heading, or an entry
 abbrev pub Wrong : {X : Type 0} → Sort X → List ℕ → ℕ → Refusal → Type 0
 Wrong s text right why = ((right ≡ 0) × NextFault (headings s) [] text why) ⊎ EntryFault s text right why
+
+-- the text begins with a heading, and then with the lines of these entries, each proper
+pub record BeginsSection {X : Type 0} (s : Sort X) (text : List ℕ) (xs : List X) : Type 0 where
+  pub due : ℕ
+  pub entries : List ℕ
+  pub rest : List ℕ
+  pub heading : Next (headings s) [] text due entries
+  pub begins : Begins s entries xs rest
+
+-- the first `right` lines of a section have nothing wrong, and say these entries: none where there is no line; else the first
+-- line is the heading, and each of the others says one
+abbrev pub LinesSay : {X : Type 0} → Sort X → List ℕ → ℕ → List X → Type 0
+LinesSay s text right xs = ((right ≡ 0) × (xs ≡ [])) ⊎ ((right ≡ length xs + 1) × BeginsSection s text xs)

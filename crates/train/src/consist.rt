@@ -1,40 +1,40 @@
-ghost use Rattle.std.specs.Prelude.{◌≡◌, ◌≤◌, List, [], length, slice_get, vec_len, vec_capacity, IfOk};
-ghost use Rattle.rules.specs.Book.{Vehicle as BookVehicle, with_rear, without_rear, with_brake, OnlyBrakeOf, locomotives, wagons, hauling_mass, trailing_mass, brake_pressure};
+ghost use Rattle.std.specs.Prelude.{◌≡◌, ◌≤◌, [], length, slice_get};
+ghost use Rattle.rules.specs.Book.{with_rear, without_rear, with_brake, OnlyBrakeOf, locomotives, wagons, hauling_mass, trailing_mass, brake_pressure};
 ghost use Rattle.rules.specs.Questions.{coupling, vehicle_there};
 ghost use Rattle.rules.specs.Refusals.{told, first_no, unless};
 
 use crate::totals::Totals;
-use crate::vehicle::Vehicle;
+use crate::vehicle::{Blank, Vehicle};
+use arrayvec::ArrayVec;
 use rules::{Refusal, VehicleFigures};
-use std::alloc::{AllocError, Global};
 use std::marker::Model;
 
 // How many vehicles a train may have.
 const MOST_VEHICLES: usize = 120;
 
-// A line holds its sections likewise. What both have in common is a `Vec` and two facts, and a list of limited room under
-// both would take more words than it saves.
-/// The vehicles of a train from the front, at most 120; the memory for them is reserved when the consist is made.
+/// The vehicles of a train from the front, at most 120. They lie in the consist itself, so that it wants no memory.
 #[derive(Drop)]
 pub struct Consist {
-    vehicles: Vec<Vehicle>,
+    vehicles: ArrayVec<Vehicle, MOST_VEHICLES, Blank>,
 }
 
 impl Model for Consist {
+    ghost use Rattle.std.specs.Prelude.{List};
+    ghost use Rattle.rules.specs.Book.{Vehicle as BookVehicle};
+
     ghost Value = { List BookVehicle };
 
     ghost view = { λ c. c.vehicles.items };
-
-    ghost invariant = { λ c. (vec_len c.vehicles ≤ 120) × (120 ≤ vec_capacity c.vehicles) };
 }
 
 impl Consist {
     /// A consist without vehicles.
-    pub fn new(heap: Global) -> Result<Consist, AllocError>
-        ensures { IfOk result (λ c. c ≡ []) }
+    pub fn new() -> Consist
+        ensures { result ≡ [] }
     {
-        let vehicles = Vec::with_capacity(heap, MOST_VEHICLES)?;
-        Ok(Consist { vehicles })
+        Consist {
+            vehicles: ArrayVec::new_in(Blank),
+        }
     }
 
     /// How many vehicles there are.
@@ -66,11 +66,9 @@ impl Consist {
         ensures held { self.new ≡ unless (told result) (with_rear self.old figures) self.old }
     {
         let vehicle = Vehicle::try_from(figures)?;
-        if self.vehicles.len() >= MOST_VEHICLES {
-            return Err(Refusal::TrainFull);
-        }
-        self.vehicles.push_reserved(vehicle);
-        Ok(())
+        self.vehicles
+            .try_push(vehicle)
+            .map_err(|_| Refusal::TrainFull)
     }
 
     /// Uncouples the rear vehicle.

@@ -2,6 +2,7 @@ ghost use Rattle.std.specs.Prelude.{◌≡◌};
 ghost use Rattle.rules.specs.Book.{vehicle, is_locomotive};
 
 use rules::{Refusal, VehicleFigures};
+use std::default::MadeWith;
 use std::marker::Model;
 
 /// What a vehicle of a train is.
@@ -61,6 +62,21 @@ impl Model for Vehicle {
     ghost invariant = { λ v. IsLawful (vehicle_of v).figures };
 
     ghost inverse = { fields_of };
+}
+
+// Makes the vehicle that fills a place of a consist where no vehicle stands.
+#[derive(Clone, Copy)]
+pub(crate) struct Blank;
+
+impl MadeWith<Blank> for Vehicle {
+    fn made_with(_blank: Blank) -> Vehicle {
+        Vehicle {
+            kind: VehicleKind::Wagon,
+            mass: 50,
+            pressure: 0,
+            braked: false,
+        }
+    }
 }
 
 impl TryFrom<VehicleFigures> for Vehicle {

@@ -1,16 +1,20 @@
-ghost use Rattle.std.specs.Prelude.{◌≡◌, ◌*◌, ◌<◌, ◌≤◌, MatchOption};
+ghost use Rattle.std.specs.Prelude.{◌≡◌, ◌*◌, ◌≤◌};
 ghost use Rattle.rules.specs.Ratio.{ratio, rounded_down, rounded_up};
+ghost use Rattle.rules.specs.Refusals.{MadeIf};
 
-use std::marker::Model;
+use crate::amount::Amount;
+use rules::Refusal;
+use std::marker::{Model, PhantomData};
 
-/// An exact value: a ratio of whole numbers, at most 1,000,000.
-#[derive(Clone, Copy, PartialEq, Eq, Debug)]
-pub struct ExactValue {
+/// An exact value of some unit: a ratio of whole numbers, at most 1,000,000. No exact value is taken for one of another unit.
+#[derive_where(Clone, Copy, PartialEq, Eq, Debug)]
+pub struct ExactValue<U> {
     num: u64,
     den: u32,
+    unit: PhantomData<U>,
 }
 
-impl Model for ExactValue {
+impl<U> Model for ExactValue<U> {
     ghost use Rattle.std.specs.Prelude.{◌*◌, ◌≤◌};
     ghost use Rattle.rules.specs.Ratio.{Ratio, ratio};
 
@@ -20,34 +24,39 @@ impl Model for ExactValue {
 
     ghost invariant = { λ x. (1 ≤ x.den) × (x.num ≤ 1000000 * x.den) };
 
-    ghost inverse = { λ x. record { num = x.num; den = x.den } };
+    ghost inverse = { λ x. record { num = x.num; den = x.den; unit = _ } };
 }
 
-impl ExactValue {
-    /// The ratio of these numbers; none over 0, and none over 1,000,000.
-    pub fn of(num: u64, den: u32) -> Option<ExactValue>
-        ensures { MatchOption result (1 ≤ den → 1000000 * den < num) (λ x. x ≡ ratio num den) }
+impl<U> ExactValue<U> {
+    // The unit is that of the type, as that of an amount.
+    /// The ratio of these numbers; refused with 14 over 0 and where it is over 1,000,000.
+    pub fn of(num: u64, den: u32) -> Result<ExactValue<U>, Refusal>
+        ensures { MadeIf ((1 ≤ den) × (num ≤ 1000000 * den)) (λ x. x ≡ ratio num den) result }
     {
         if 1 <= den && num <= 1_000_000 * u64::from(den) {
-            Some(ExactValue { num, den })
+            Ok(ExactValue {
+                num,
+                den,
+                unit: PhantomData,
+            })
         } else {
-            None
+            Err(Refusal::UnlawfulLaw)
         }
     }
 
     /// The whole number next below, or the value itself where it is whole.
-    pub fn down(self) -> u32
-        ensures value { result ≡ rounded_down self }
+    pub fn down(&self) -> Amount<U>
+        ensures value { result ≡ rounded_down self.now }
         ensures most { result ≤ 1000000 }
     {
-        (self.num / u64::from(self.den)) as u32
+        Amount::new((self.num / u64::from(self.den)) as u32)
     }
 
     /// The whole number next above, or the value itself where it is whole.
-    pub fn up(self) -> u32
-        ensures value { result ≡ rounded_up self }
+    pub fn up(&self) -> Amount<U>
+        ensures value { result ≡ rounded_up self.now }
         ensures most { result ≤ 1000000 }
     {
-        self.num.div_ceil(u64::from(self.den)) as u32
+        Amount::new(self.num.div_ceil(u64::from(self.den)) as u32)
     }
 }

@@ -2,13 +2,11 @@
 #![tactic(auto)]
 
 pub mod amount;
-pub mod braking;
 pub mod exact;
-pub mod grade;
+pub mod specific_force;
 pub mod tenths;
 
 pub use amount::{Amount, Friction, Kgf, KilogramsForce, Milli, MilliPerTonne, Millionths};
-pub use braking::BrakeRatio;
 pub use exact::ExactValue;
-pub use grade::Grade;
+pub use specific_force::{Grade, SpecificForce};
 pub use tenths::{Gross, KilometresPerHour, Load, Speed, Tenths, Tonnes};

@@ -1,2 +1,3 @@
 pub mod Codes
+pub mod Handle
 pub mod Held

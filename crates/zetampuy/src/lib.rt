@@ -1,7 +1,7 @@
 // Run files answered for C: calls on numbers and bytes, over the library `answering`.
 #![tactic(auto)]
 
-ghost use Rattle.std.specs.Prelude.{◌≡◌, ℕ, ◌≤◌, true, false, pos, [], length, None, Ok, Err, Option, Result, IfSome};
+ghost use Rattle.std.specs.Prelude.{◌≡◌, ℕ, ◌<◌, ◌≤◌, true, false, pos, [], length, None, Ok, Err, Option, Result, IfSome};
 ghost use Rattle.answering.specs.Alone.{NthAnswered, AnsweredAlone, FaultPut, Counted, Heads};
 ghost use Rattle.answering.specs.declared.unanswered.Unanswered.{Unanswered as NoAnswer};
 ghost use Rattle.printing.specs.Lines.{fault_line};
@@ -10,6 +10,7 @@ ghost use Rattle.rules.specs.declared.fault.Fault.{Fault as FileFault};
 ghost use Rattle.rules.specs.declared.refusal.Refusal.{Refusal as Refused};
 ghost use Rattle.runfile.specs.Run.{Request, IsRun, IsFault};
 ghost use Rattle.zetampuy.specs.Codes.{nine_tenths, no_reckoner, refusal_code, answer_code, fault_code, count_code};
+ghost use Rattle.zetampuy.specs.Handle.{ReadIn};
 
 mod codes;
 pub mod handle;
@@ -30,10 +31,7 @@ pub extern "C" fn zetampuy_new(heap: Global, handle: &mut Handle) -> bool
     ensures made { IfSome handle.new.held.reckoner (λ r. (r.sheet ≡ new_book) × (r.file ≡ None) × (r.output ≡ [])) }
 {
     zetampuy_free(heap, handle);
-    let Ok(reckoner) = Reckoner::new(heap) else {
-        return false;
-    };
-    let Ok(reckoner) = Box::new(heap, reckoner) else {
+    let Ok(reckoner) = Box::new(heap, Reckoner::new()) else {
         return false;
     };
     *handle = Handle::of(reckoner);
@@ -56,6 +54,7 @@ pub extern "C" fn zetampuy_questions(heap: Global, handle: &mut Handle, text: &[
     ensures counted { handle.old.made ≡ true → (count : Result ℕ FileFault) × Counted text.now count × (result ≡ count_code count) }
     ensures accepts { (q : Request) (b : Book) → IsRun text.now q b → handle.old.made ≡ true → result ≡ pos (length q.questions) }
     ensures refuses { (f : FileFault) → IsFault text.now f → handle.old.made ≡ true → result ≡ refusal_code f.refusal }
+    ensures left { ReadIn text.now handle.old.held.reckoner handle.new.held.reckoner }
 {
     let Some(mut reckoner) = handle.take(heap) else {
         return NO_RECKONER;
@@ -83,6 +82,8 @@ pub extern "C" fn zetampuy_answer(
     ensures accepts { (q : Request) (b : Book) → IsRun text.now q b → handle.old.made ≡ true → 64 ≤ length out.old
         → (answer : Result ℕ NoAnswer) × NthAnswered (nine_tenths q.points) q b number out.old answer out.new × (result ≡ answer_code answer) }
     ensures refuses { (f : FileFault) → IsFault text.now f → handle.old.made ≡ true → 64 ≤ length out.old → result ≡ refusal_code f.refusal }
+    ensures left { 64 ≤ length out.old → ReadIn text.now handle.old.held.reckoner handle.new.held.reckoner }
+    ensures kept { length out.old < 64 → handle.new.held.reckoner ≡ handle.old.held.reckoner }
 {
     let Some(mut reckoner) = handle.take(heap) else {
         return NO_RECKONER;
@@ -109,6 +110,8 @@ pub extern "C" fn zetampuy_fault(
     ensures accepts { (q : Request) (b : Book) → IsRun text.now q b → handle.old.made ≡ true → 64 ≤ length out.old → result ≡ pos 0 }
     ensures refuses { (f : FileFault) → IsFault text.now f → handle.old.made ≡ true → 64 ≤ length out.old
         → (k : ℕ) × Heads (fault_line f) out.old k out.new × (result ≡ pos k) }
+    ensures left { 64 ≤ length out.old → ReadIn text.now handle.old.held.reckoner handle.new.held.reckoner }
+    ensures kept { length out.old < 64 → handle.new.held.reckoner ≡ handle.old.held.reckoner }
 {
     let Some(mut reckoner) = handle.take(heap) else {
         return NO_RECKONER;

@@ -35,6 +35,8 @@ returns-clause-figures c =
       hauled_on_a_climb = refl;
       hauled_from_a_stop = refl;
       hauled_by_less = refl;
+      hauled_by_coupler = refl;
+      hauled_by_coupler_from_a_stop = refl;
     }
 
 pub returns-clause-examples : goal.returns-clause-examples

@@ -6,12 +6,6 @@ use Rattle.std.proofs.lemmas.Iterator.{YieldsList-from_slice}
 use Rattle.line.proofs.Lengths.{sum_by-line_length}
 use Rattle.line.proofs.line.Line.metres.Goals as goal
 
-pub sum-requires-clause-fits : goal.sum-requires-clause-fits
-sum-requires-clause-fits c =
-    let all : c.map.result.iter.rest.now ≡ c.deref.result.now = cc (ap (λ i. i.rest.now) c.map.ensures.source, c.iter.ensures.rest) in
-    let few : length c.deref.result.now ≤ 200 = omega (arith, c.deref.ensures.len, c.self.invariant.0) in
-    fits_from_length _ _ 200 _ (at_most_from_yields_List (YieldsList-from_slice c.deref.result.now all) few) c.map.ensures.closure (omega arith) (λ x r q k. search rules)
-
 pub returns-clause-value : goal.returns-clause-value
 returns-clause-value c =
     let total : c.sum.result ≡ sum_by (λ f. f.metres) c.args.self.now = search (rules, chains) in
@@ -21,7 +15,7 @@ returns-clause-value c =
 pub returns-clause-most : goal.returns-clause-most
 returns-clause-most c =
     let whole = c.sum.ensures.runs tt in
-    let all : c.map.result.iter.rest.now ≡ c.deref.result.now = cc (ap (λ i. i.rest.now) c.map.ensures.source, c.iter.ensures.rest) in
-    let few : length c.deref.result.now ≤ 200 = omega (arith, c.deref.ensures.len, c.self.invariant.0) in
-    let short = fits_from_length _ _ 200 4000001 (at_most_from_yields_List (YieldsList-from_slice c.deref.result.now all) few) c.map.ensures.closure (omega arith) (λ x r q k. search rules) whole.0 whole.0.seen whole.1 in
+    let all : c.map.result.iter.rest.now ≡ c.sections.result.now = cc (ap (λ i. i.rest.now) c.map.ensures.source, c.iter.ensures.rest) in
+    let few : length c.sections.result.now ≤ 200 = rw c.sections.ensures.sections c.sections.ensures.few in
+    let short = fits_from_length _ _ 200 4000001 (at_most_from_yields_List (YieldsList-from_slice c.sections.result.now all) few) c.map.ensures.closure (omega arith) (λ x r q k. search rules) whole.0 whole.0.seen whole.1 in
     omega (arith, short, whole.3)
