@@ -16,12 +16,12 @@ pub fn friction(rt: &HostRuntime) -> io::Result<()> {
 /// Wagon drag and the drag of the DF4, below and above.
 pub fn drags(rt: &HostRuntime) -> io::Result<()> {
     for (speed, gross) in [(500, 600), (0, 50), (1600, 2000)] {
-        if let Some(at) = Running::from_tenths(speed, gross) {
+        if let Ok(at) = Running::from_tenths(speed, gross) {
             println!(rt; "wagon drag {}", ReadingAt::of(&WagonDrag, at))?;
         }
     }
     for speed in [0, 123, 500] {
-        if let Some(at) = Running::from_tenths(speed, 600) {
+        if let Ok(at) = Running::from_tenths(speed, 600) {
             let Reading { below, above } = QuadraticDrag::df4().read(at);
             println!(rt; "DF4 at {speed}: {below} {above}")?;
         }

@@ -16,7 +16,7 @@ pub fn every_refusal(rt: &HostRuntime) -> io::Result<()> {
     sections(rt)?;
     stops(rt)?;
     let heavy = mass(
-        &example_sheet(rt.alloc(), 0)?,
+        &example_sheet(0),
         &diesel(example_pull()),
         MassQuestion {
             speed: 401,
@@ -35,7 +35,7 @@ pub fn every_refusal(rt: &HostRuntime) -> io::Result<()> {
 
 // What a train refuses: 1 to 3.
 fn vehicles(rt: &HostRuntime) -> io::Result<()> {
-    let mut sheet = Sheet::new(rt.alloc())?;
+    let mut sheet = Sheet::new();
     let wagon = VehicleFigures::new('W', 600, 200);
     let lettered = Outcome::of(sheet.couple(VehicleFigures::new('X', 600, 200)));
     println!(rt; "a vehicle with the letter X: {lettered}")?;
@@ -50,7 +50,7 @@ fn vehicles(rt: &HostRuntime) -> io::Result<()> {
 
 // What a line and a braking distance refuse: 4 to 6.
 fn sections(rt: &HostRuntime) -> io::Result<()> {
-    let mut sheet = Sheet::new(rt.alloc())?;
+    let mut sheet = Sheet::new();
     let section = SectionFigures::straight(100, 0);
     let short = Outcome::of(sheet.append(SectionFigures::straight(0, 0)));
     println!(rt; "a section of 0 m: {short}")?;
@@ -65,15 +65,15 @@ fn sections(rt: &HostRuntime) -> io::Result<()> {
 
 // What refuses a stop: 7 to 12.
 fn stops(rt: &HostRuntime) -> io::Result<()> {
-    let level = example_sheet(rt.alloc(), 0)?;
-    let mut steep = example_sheet(rt.alloc(), -400)?;
+    let level = example_sheet(0);
+    let mut steep = example_sheet(-400);
     let slow = StopQuestion::full_braking(0, 100);
     let over = StopQuestion::full_braking(0, 1601);
     let behind = StopQuestion::full_braking(2001, 100);
     let fast = StopQuestion::full_braking(0, 1600);
     let stop = stop_of_df4::<Freight>(&level, over);
     println!(rt; "a stop from 1601: {stop}")?;
-    let stop = stop_of_df4::<Freight>(&Sheet::new(rt.alloc())?, slow);
+    let stop = stop_of_df4::<Freight>(&Sheet::new(), slow);
     println!(rt; "a stop without a train: {stop}")?;
     let stop = stop_of_df4::<Freight>(&level, behind);
     println!(rt; "a stop a metre too near to the end: {stop}")?;
@@ -89,8 +89,8 @@ fn stops(rt: &HostRuntime) -> io::Result<()> {
 
 // What refuses a run file by its form: 15 and 16.
 fn files(rt: &HostRuntime) -> io::Result<()> {
-    let mut sheet = Sheet::new(rt.alloc())?;
-    let mut file = RunFile::new(rt.alloc())?;
+    let mut sheet = Sheet::new();
+    let mut file = RunFile::new();
     for (label, text) in [
         ("a run file in small letters", b"run 1\n"),
         ("a run file of two runs", b"RUN 2\n"),

@@ -8,7 +8,7 @@ use std::io;
 pub fn example_train(rt: &HostRuntime) -> io::Result<()> {
     println!(rt; "stops of the example train")?;
     for (gradient, speed) in [(-100, 100), (0, 100), (100, 100), (0, 0)] {
-        let sheet = example_sheet(rt.alloc(), gradient)?;
+        let sheet = example_sheet(gradient);
         let stop = Outcome::from(stop_of_example(&sheet, speed));
         println!(rt; "gradient {gradient}, speed {speed}: {stop}")?;
     }
@@ -17,7 +17,7 @@ pub fn example_train(rt: &HostRuntime) -> io::Result<()> {
 
 /// One stop by each kind of brake.
 pub fn by_kind(rt: &HostRuntime) -> io::Result<()> {
-    let sheet = example_sheet(rt.alloc(), -20)?;
+    let sheet = example_sheet(-20);
     let question = StopQuestion::full_braking(0, 350);
     let stop = stop_of_df4::<Freight>(&sheet, question);
     println!(rt; "kind F, gradient -20, speed 350: {stop}")?;
@@ -34,7 +34,7 @@ pub fn by_kind(rt: &HostRuntime) -> io::Result<()> {
 /// A window that ends with the line, and one that begins at the end of a steep section and one metre behind it.
 pub fn window_ends(rt: &HostRuntime) -> io::Result<()> {
     println!(rt; "the ends of the window")?;
-    let mut sheet = example_sheet(rt.alloc(), -150)?;
+    let mut sheet = example_sheet(-150);
     let _ = sheet.append(SectionFigures::straight(1001, 0));
     for (label, place) in [
         ("from the end of the fall", 3000),
@@ -47,8 +47,8 @@ pub fn window_ends(rt: &HostRuntime) -> io::Result<()> {
 }
 
 // A train whose third vehicle is cut out, on curved sections that fall more and more.
-fn falling(rt: &HostRuntime) -> io::Result<Sheet> {
-    let mut sheet = Sheet::new(rt.alloc())?;
+fn falling() -> Sheet {
+    let mut sheet = Sheet::new();
     for (letter, mass, pressure) in [
         ('L', 1000, 400),
         ('W', 600, 200),
@@ -70,13 +70,13 @@ fn falling(rt: &HostRuntime) -> io::Result<Sheet> {
         });
     }
     let _ = sheet.set_distance(3000);
-    Ok(sheet)
+    sheet
 }
 
 /// Stops of many steps over several sections.
 pub fn long_stops(rt: &HostRuntime) -> io::Result<()> {
     println!(rt; "long stops")?;
-    let sheet = falling(rt)?;
+    let sheet = falling();
     for (place, speed) in [
         (500, 730),
         (499, 730),
@@ -98,7 +98,7 @@ pub fn long_stops(rt: &HostRuntime) -> io::Result<()> {
 
 /// A stop without wagons.
 pub fn alone(rt: &HostRuntime) -> io::Result<()> {
-    let mut sheet = Sheet::new(rt.alloc())?;
+    let mut sheet = Sheet::new();
     let _ = sheet.couple(VehicleFigures::new('L', 1380, 420));
     let _ = sheet.append(SectionFigures {
         curve: 300,

@@ -2,6 +2,7 @@ use crate::calls::{Noted, Pulled};
 use crate::show::show_sheet;
 use history::Reply;
 use report::StopWithAllowance;
+use rules::StopFigures;
 use sheet::Sheet;
 use std::io;
 
@@ -31,7 +32,10 @@ fn tell_entry(rt: &HostRuntime, stock: &Pulled, entry: &Noted<'_>) -> io::Result
     let call = &entry.call;
     match entry.reply {
         Some(Reply::Stops(figures)) => {
-            println!(rt; "{call}: {}", StopWithAllowance::of(stock, figures))
+            println!(rt;
+                "{call}: {}",
+                StopWithAllowance::of(stock, StopFigures::from(figures))
+            )
         }
         Some(reply) => println!(rt; "{call}: {reply}"),
         None => println!(rt; "{call}: not performed"),

@@ -36,7 +36,7 @@ fn layered_stock() -> Result<Layered, Refusal> {
 /// Stops of the example train by a stock of layers alone.
 pub fn stops(rt: &HostRuntime) -> io::Result<()> {
     println!(rt; "stops by layers alone")?;
-    let sheet = example_sheet(rt.alloc(), -20)?;
+    let sheet = example_sheet(-20);
     if let Ok(stock) = layered_stock() {
         for (speed, factor) in [(730, 8), (730, 5), (1200, 10)] {
             let question = StopQuestion {

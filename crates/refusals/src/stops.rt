@@ -6,7 +6,7 @@ use std::io;
 /// Stop questions out of their ranges, and beyond the line.
 pub fn out_of_range(rt: &HostRuntime) -> io::Result<()> {
     println!(rt; "stops")?;
-    let sheet = example_sheet(rt.alloc(), 0)?;
+    let sheet = example_sheet(0);
     for (place, speed, factor) in [
         (4_000_001, 100, 10),
         (0, 1601, 10),
@@ -30,14 +30,14 @@ pub fn out_of_range(rt: &HostRuntime) -> io::Result<()> {
 pub fn weak_brakes(rt: &HostRuntime) -> io::Result<()> {
     let slow = StopQuestion::full_braking(0, 100);
     let fast = StopQuestion::full_braking(0, 1600);
-    let mut steep = example_sheet(rt.alloc(), -400)?;
+    let mut steep = example_sheet(-400);
     let _ = steep.cut_out(0);
     let stop = stop_of_df4::<Freight>(&steep, slow);
     println!(rt; "gradient -400, locomotive cut out: {stop}")?;
     let _ = steep.cut_out(1);
     let stop = stop_of_df4::<Freight>(&steep, slow);
     println!(rt; "gradient -400, both cut out: {stop}")?;
-    let level = example_sheet(rt.alloc(), 0)?;
+    let level = example_sheet(0);
     let stop = stop_of_df4::<Freight>(&level, fast);
     println!(rt; "speed 1600: {stop}")
 }

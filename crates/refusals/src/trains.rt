@@ -7,7 +7,7 @@ use std::io;
 /// Vehicles inside and outside their ranges.
 pub fn vehicles(rt: &HostRuntime) -> io::Result<()> {
     println!(rt; "vehicles")?;
-    let mut sheet = Sheet::new(rt.alloc())?;
+    let mut sheet = Sheet::new();
     for (letter, mass, pressure) in [
         ('X', 1000, 400),
         ('l', 1000, 400),
@@ -27,7 +27,7 @@ pub fn vehicles(rt: &HostRuntime) -> io::Result<()> {
 
 /// A train of no vehicle, and one of 120 wagons.
 pub fn long_train(rt: &HostRuntime) -> io::Result<()> {
-    let mut sheet = Sheet::new(rt.alloc())?;
+    let mut sheet = Sheet::new();
     let uncoupled = Outcome::of(sheet.uncouple());
     println!(rt; "uncouple from no train: {uncoupled}")?;
     let cut_out = Outcome::of(sheet.cut_out(0));
