@@ -112,7 +112,7 @@ impl Line {
             }
             start = end;
         }
-        lowest.unwrap_or(Grade::level())
+        lowest.unwrap_or(Grade::from_milli(0))
     }
 }
 

@@ -122,7 +122,6 @@ impl<'a, S: StockLaws> Braking<'a, S> {
 
     // The steps of a stop from a speed, from the lowest one on; refused where the train is not held in one.
     #[tactic(auto, using(crate::proofs::Brakings::begins, crate::proofs::Brakings::ends))]
-    #[inline(always)]
     pub(crate) fn run(&self, v: Speed) -> Result<Run, Refusal>
         ensures { Braked (holding_force (train_of S.meaning self.now)) v result }
     {

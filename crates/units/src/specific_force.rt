@@ -33,19 +33,13 @@ impl Model for SpecificForce {
 }
 
 impl SpecificForce {
-    /// The grade of level line.
-    pub fn level() -> SpecificForce
-        ensures { result ≡ pos 0 }
-    {
-        SpecificForce { milli: 0 }
-    }
-
-    /// The grade of a gradient in tenths of a per mille, 100 milli for each, with what a curve adds to it.
-    pub fn of_gradient(tenths: i32, curve: Milli) -> SpecificForce
-        ensures { result ≡ pos 100 *ℤ tenths +ℤ pos curve }
+    // By name and not by `From`: `Grade::from(100)` would not say milli.
+    /// The force of so many milli.
+    pub fn from_milli(milli: i32) -> SpecificForce
+        ensures { result ≡ milli }
     {
         SpecificForce {
-            milli: 100 * i64::from(tenths) + i64::from(curve.count()),
+            milli: i64::from(milli),
         }
     }
 
@@ -78,11 +72,8 @@ impl SpecificForce {
     pub fn positive_part(self) -> Milli
         ensures { result ≡ min (natural_of self) 4294967295 }
     {
-        match u32::try_from(self.milli) {
-            Ok(milli) => Milli::new(milli),
-            Err(_) if self.milli < 0 => Milli::new(0),
-            Err(_) => Milli::new(u32::MAX),
-        }
+        let milli = self.milli.max(0).unsigned_abs();
+        Milli::new(milli.min(u64::from(u32::MAX)) as u32)
     }
 
     /// How steep a fall is: 0 on the level and on a rise, and 4,294,967,295 milli where it is steeper.
