@@ -1,7 +1,6 @@
-use laws::{ElectroPneumatic, Freight, FreightByHand, NoPull, Passenger, PassengerByHand, diesel};
-use reckoning::stop;
-use report::{Outcome, example_sheet, stop_of_example, tell_stop};
-use rules::{SectionFigures, StopFigures, StopQuestion, VehicleFigures};
+use laws::{ElectroPneumatic, Freight, FreightByHand, Passenger, PassengerByHand};
+use report::{Outcome, example_sheet, stop_of_df4, stop_of_example};
+use rules::{SectionFigures, StopQuestion, VehicleFigures};
 use sheet::Sheet;
 use std::io;
 
@@ -9,42 +8,47 @@ use std::io;
 pub fn example_train(rt: &HostRuntime) -> io::Result<()> {
     println!(rt; "stops of the example train")?;
     for (gradient, speed) in [(-100, 100), (0, 100), (100, 100), (0, 0)] {
-        let sheet = example_sheet(rt.alloc(), gradient)?;
-        let answer = stop_of_example(&sheet, speed);
-        let told = Outcome(answer.map(|figures| StopFigures::from(figures)));
-        println!(rt; "gradient {gradient}, speed {speed}: {told}")?;
+        let sheet = example_sheet(gradient);
+        let stop = Outcome::from(stop_of_example(&sheet, speed));
+        println!(rt; "gradient {gradient}, speed {speed}: {stop}")?;
     }
     Ok(())
 }
 
 /// One stop by each kind of brake.
 pub fn by_kind(rt: &HostRuntime) -> io::Result<()> {
-    let sheet = example_sheet(rt.alloc(), -20)?;
+    let sheet = example_sheet(-20);
     let question = StopQuestion::full_braking(0, 350);
-    tell_stop::<Freight, _>(rt, "kind F, gradient -20, speed 350", &sheet, question)?;
-    tell_stop::<Passenger, _>(rt, "kind P, gradient -20, speed 350", &sheet, question)?;
-    tell_stop::<ElectroPneumatic, _>(rt, "kind E, gradient -20, speed 350", &sheet, question)?;
-    tell_stop::<FreightByHand, _>(rt, "kind H, gradient -20, speed 350", &sheet, question)?;
-    tell_stop::<PassengerByHand, _>(rt, "kind J, gradient -20, speed 350", &sheet, question)
+    let stop = stop_of_df4::<Freight>(&sheet, question);
+    println!(rt; "kind F, gradient -20, speed 350: {stop}")?;
+    let stop = stop_of_df4::<Passenger>(&sheet, question);
+    println!(rt; "kind P, gradient -20, speed 350: {stop}")?;
+    let stop = stop_of_df4::<ElectroPneumatic>(&sheet, question);
+    println!(rt; "kind E, gradient -20, speed 350: {stop}")?;
+    let stop = stop_of_df4::<FreightByHand>(&sheet, question);
+    println!(rt; "kind H, gradient -20, speed 350: {stop}")?;
+    let stop = stop_of_df4::<PassengerByHand>(&sheet, question);
+    println!(rt; "kind J, gradient -20, speed 350: {stop}")
 }
 
 /// A window that ends with the line, and one that begins at the end of a steep section and one metre behind it.
 pub fn window_ends(rt: &HostRuntime) -> io::Result<()> {
     println!(rt; "the ends of the window")?;
-    let mut sheet = example_sheet(rt.alloc(), -150)?;
+    let mut sheet = example_sheet(-150);
     let _ = sheet.append(SectionFigures::straight(1001, 0));
     for (label, place) in [
         ("from the end of the fall", 3000),
         ("one metre behind it, to the line's end", 3001),
     ] {
-        tell_stop::<Freight, _>(rt, label, &sheet, StopQuestion::full_braking(place, 100))?;
+        let stop = stop_of_df4::<Freight>(&sheet, StopQuestion::full_braking(place, 100));
+        println!(rt; "{label}: {stop}")?;
     }
     Ok(())
 }
 
 // A train whose third vehicle is cut out, on curved sections that fall more and more.
-fn falling(rt: &HostRuntime) -> io::Result<Sheet> {
-    let mut sheet = Sheet::new(rt.alloc())?;
+fn falling() -> Sheet {
+    let mut sheet = Sheet::new();
     for (letter, mass, pressure) in [
         ('L', 1000, 400),
         ('W', 600, 200),
@@ -66,13 +70,13 @@ fn falling(rt: &HostRuntime) -> io::Result<Sheet> {
         });
     }
     let _ = sheet.set_distance(3000);
-    Ok(sheet)
+    sheet
 }
 
 /// Stops of many steps over several sections.
 pub fn long_stops(rt: &HostRuntime) -> io::Result<()> {
     println!(rt; "long stops")?;
-    let sheet = falling(rt)?;
+    let sheet = falling();
     for (place, speed) in [
         (500, 730),
         (499, 730),
@@ -86,16 +90,15 @@ pub fn long_stops(rt: &HostRuntime) -> io::Result<()> {
             speed,
             factor: 9,
         };
-        let answer = stop::<Freight, _>(&sheet, &diesel(NoPull), question);
-        let told = Outcome(answer.map(|figures| StopFigures::from(figures)));
-        println!(rt; "place {place}, speed {speed}: {told}")?;
+        let stop = stop_of_df4::<Freight>(&sheet, question);
+        println!(rt; "place {place}, speed {speed}: {stop}")?;
     }
     Ok(())
 }
 
 /// A stop without wagons.
 pub fn alone(rt: &HostRuntime) -> io::Result<()> {
-    let mut sheet = Sheet::new(rt.alloc())?;
+    let mut sheet = Sheet::new();
     let _ = sheet.couple(VehicleFigures::new('L', 1380, 420));
     let _ = sheet.append(SectionFigures {
         curve: 300,
@@ -107,5 +110,6 @@ pub fn alone(rt: &HostRuntime) -> io::Result<()> {
         speed: 500,
         factor: 6,
     };
-    tell_stop::<ElectroPneumatic, _>(rt, "locomotive alone, speed 500", &sheet, question)
+    let alone = stop_of_df4::<ElectroPneumatic>(&sheet, question);
+    println!(rt; "locomotive alone, speed 500: {alone}")
 }

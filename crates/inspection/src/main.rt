@@ -19,8 +19,8 @@ const MOST_READ: usize = 65_537;
 fn main(rt: HostRuntime) -> io::Result<()> {
     let mut text = Vec::with_capacity(rt.alloc(), MOST_READ)?;
     rt.stdin().take(MOST_READ as u64).read_to_end(&mut text)?;
-    let mut sheet = Sheet::new(rt.alloc())?;
-    let mut file = RunFile::new(rt.alloc())?;
+    let mut sheet = Sheet::new();
+    let mut file = RunFile::new();
     println!(&rt; "new sheet")?;
     show_sheet(&rt, &sheet)?;
     println!(&rt; "read")?;

@@ -1,7 +1,8 @@
 use crate::calls::{Noted, Pulled};
 use crate::show::show_sheet;
 use history::Reply;
-use report::{StopWithAllowance, tell};
+use report::StopWithAllowance;
+use rules::StopFigures;
 use sheet::Sheet;
 use std::io;
 
@@ -28,11 +29,15 @@ pub fn tell_calls(rt: &HostRuntime, stock: &Pulled, calls: &[Noted<'_>]) -> io::
 
 // A stop is told with by how much at most its distance exceeds the exact sum.
 fn tell_entry(rt: &HostRuntime, stock: &Pulled, entry: &Noted<'_>) -> io::Result<()> {
+    let call = &entry.call;
     match entry.reply {
         Some(Reply::Stops(figures)) => {
-            tell(rt, &entry.call, StopWithAllowance::of(stock, figures))
+            println!(rt;
+                "{call}: {}",
+                StopWithAllowance::of(stock, StopFigures::from(figures))
+            )
         }
-        Some(reply) => tell(rt, &entry.call, reply),
-        None => tell(rt, &entry.call, "not performed"),
+        Some(reply) => println!(rt; "{call}: {reply}"),
+        None => println!(rt; "{call}: not performed"),
     }
 }

@@ -1,6 +1,6 @@
 use laws::{AdhesionPull, CastIron, Composite, QuadraticDrag, WagonDrag};
 use layers::{Blend, Scale};
-use report::{Outcome, tell_quadratic_drags};
+use report::{Outcome, drags_at_limits};
 use std::io;
 
 /// Adhesive masses and the constants of a quadratic drag.
@@ -10,7 +10,10 @@ pub fn laws(rt: &HostRuntime) -> io::Result<()> {
         let outcome = Outcome::of(AdhesionPull::new(mass));
         println!(rt; "adhesion {mass}: {outcome}")?;
     }
-    tell_quadratic_drags(rt)
+    for drag in drags_at_limits() {
+        println!(rt; "{drag}")?;
+    }
+    Ok(())
 }
 
 /// Shares and blends.

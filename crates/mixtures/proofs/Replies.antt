@@ -1,17 +1,22 @@
--- Six things of a list, one by one.
-use Rattle.std.proofs.Common.{◌≡◌, List, [], ◌∷◌, map, length, get_or, refl, arith}
+-- The replies that stand beside the calls of a mixed history.
+use Rattle.std.proofs.Common.{◌≡◌, List, [], ◌∷◌, map, Option, refl, ap, ◌∙◌}
+use Rattle.std.specs.Option.{option_map}
+use Rattle.rules.specs.Book.{Book}
+use Rattle.rules.specs.History.{Inquiry}
+use Rattle.history.specs.Calls.{AllPerformed, events_of, told_beside}
+use Rattle.history.specs.Replies.{reply_told}
+use Rattle.history.specs.declared.call.Exchange.{Exchange}
+use Rattle.history.specs.declared.reply.Reply.{Reply}
+use Rattle.mixtures.specs.Mixtures.{Mixed}
 
-pub map_of_six : {X Y : Type 0} (g : X → Y) (xs : List X) (a b c d e f : X) → length xs ≡ 6
-    → g (get_or xs 0 a) ∷ g (get_or xs 1 b) ∷ g (get_or xs 2 c) ∷ g (get_or xs 3 d) ∷ g (get_or xs 4 e) ∷ g (get_or xs 5 f) ∷ [] ≡ map g xs
-map_of_six g (p ∷ q ∷ r ∷ s ∷ t ∷ u ∷ []) a b c d e f long = refl
-map_of_six g (p ∷ q ∷ r ∷ s ∷ t ∷ u ∷ v ∷ xs) a b c d e f long = absurd (omega arith)
-map_of_six g (p ∷ q ∷ r ∷ s ∷ t ∷ []) a b c d e f long = absurd (omega arith)
-map_of_six g (p ∷ q ∷ r ∷ s ∷ []) a b c d e f long = absurd (omega arith)
-map_of_six g (p ∷ q ∷ r ∷ []) a b c d e f long = absurd (omega arith)
-map_of_six g (p ∷ q ∷ []) a b c d e f long = absurd (omega arith)
-map_of_six g (p ∷ []) a b c d e f long = absurd (omega arith)
-map_of_six g [] a b c d e f long = absurd (omega arith)
+told_of : {Q : Type 0} (es : List (Exchange Q)) → map (option_map reply_told) (map (λ e. e.reply) es) ≡ map told_beside es
+told_of [] = refl
+told_of (e ∷ es) = ap (λ rs. told_beside e ∷ rs) (told_of es)
 
-pub same_six : {X : Type 0} (a b c d e f p q r s t u : X) → a ≡ p → b ≡ q → c ≡ r → d ≡ s → e ≡ t → f ≡ u
-    → ◌≡◌ {A = List X} (a ∷ b ∷ c ∷ d ∷ e ∷ f ∷ []) (p ∷ q ∷ r ∷ s ∷ t ∷ u ∷ [])
-same_six a b c d e f p q r s t u i j k l m n = rw (i, j, k, l, m, n) refl
+pub mixed : {Q : Type 0} (inquiry : Q → Inquiry) (b : Book) (old new : List (Exchange Q)) (c : Book) (rs : List (Option Reply))
+    → AllPerformed inquiry b old new c → rs ≡ map (λ e. e.reply) new → Mixed b (events_of inquiry old) rs c
+mixed inquiry b old new c rs made told = record {
+  given = made.given;
+  told = ap (map (option_map reply_told)) told ∙ told_of new ∙ made.beside;
+  history = made.history;
+}

@@ -19,7 +19,7 @@ impl Formula for DiscBlocks {
 
     ghost most = { Prim.search rules };
 
-    fn exactly(&self, _: Speed) -> ExactValue {
+    fn exactly(&self, _: Speed) -> ExactValue<Millionths> {
         ExactValue::of(350_000, 1).unwrap()
     }
 }

@@ -19,7 +19,7 @@ use sheet::Sheet;
 use std::io;
 
 fn main(rt: HostRuntime) -> io::Result<()> {
-    let mut sheet = Sheet::new(rt.alloc())?;
+    let mut sheet = Sheet::new();
     let _ = sheet.couple(VehicleFigures::new('L', 1000, 400));
     let _ = sheet.append(SectionFigures::straight(1500, 0));
     let _ = sheet.append(SectionFigures::straight(1500, 80));

@@ -1,12 +1,13 @@
 ghost use Rattle.mixtures.specs.Mixtures.{Mixed, combined};
+ghost use Rattle.history.specs.Calls.{event_of, events_of};
 ghost use Rattle.rules.specs.History.{couple, cut_out_brake, ask, inquiry};
 ghost use Rattle.rules.specs.Kind.{freight, passenger};
 ghost use Rattle.rules.specs.declared.figures.Question.TheVariants.{Stop, Speed, Mass};
-ghost use Rattle.std.specs.Prelude.{[], ◌∷◌};
+ghost use Rattle.std.specs.Prelude.{◌≡◌, [], ◌∷◌, map};
 
 use crate::disc::DiscBlocks;
 use crate::kind::Combined;
-use history::{Asked, Call, Either, Exchange, Reply, perform};
+use history::{Asked, Call, Either, Exchange, Inquiry, Reply, perform};
 use laws::{
     AdhesionPull, CastIron, Composite, Freight, Locomotive, Passenger, QuadraticDrag, Stock,
     StockLaws, WagonDrag,
@@ -53,6 +54,12 @@ pub struct Questions {
     pub mass: MassQuestion,
 }
 
+// A question to one of the three stocks, with a kind of brake of its own.
+type Mixture<'a> = Either<
+    Asked<'a, Freight, Diesel>,
+    Either<Asked<'a, Passenger, Electric>, Asked<'a, Combined, Blended>>,
+>;
+
 /// Couples a vehicle, asks for a stop, cuts out a brake, asks for the same stop with another kind of brake and another stock, and
 /// asks with a third how fast and how heavy the train may be: the replies in that order.
 pub fn mix(
@@ -71,39 +78,91 @@ pub fn mix(
         ∷ ask (inquiry combined (⟦<Blended as StockLaws>⟧.meaning stocks.now.blended) (Mass questions.mass))
         ∷ []) result sheet.new }
 {
-    let Questions { stop, speed, mass } = questions;
-    let Stocks {
-        diesel,
-        electric,
-        blended,
-    } = stocks;
-    let calls: &mut [_] = &mut [
-        Exchange::from(Call::Couple(vehicle)),
-        Exchange::from(Call::Ask(Either::Left(Asked::<Freight, _>::new(
-            diesel,
-            Question::Stop(stop),
-        )))),
-        Exchange::from(Call::CutOut(k)),
-        Exchange::from(Call::Ask(Either::Right(Either::Left(Asked::<Passenger, _>::new(
-            electric,
-            Question::Stop(stop),
-        ))))),
-        Exchange::from(Call::Ask(Either::Right(Either::Right(Asked::<Combined, _>::new(
-            blended,
-            Question::Speed(speed),
-        ))))),
-        Exchange::from(Call::Ask(Either::Right(Either::Right(Asked::<Combined, _>::new(
-            blended,
-            Question::Mass(mass),
-        ))))),
-    ];
-    perform(sheet, calls);
+    let mut calls = mixed_calls(stocks, vehicle, k, questions);
+    replies(sheet, &mut calls)
+}
+
+// The calls of such a history, still to be performed.
+fn mixed_calls<'a>(
+    stocks: &'a Stocks,
+    vehicle: VehicleFigures,
+    k: usize,
+    questions: Questions,
+) -> [Exchange<Mixture<'a>>; 6]
+    ensures { events_of ⟦<Mixture<'a> as Inquiry>⟧.inquiry result
+        ≡ couple vehicle
+        ∷ ask (inquiry freight (⟦<Diesel as StockLaws>⟧.meaning stocks.now.diesel) (Stop questions.stop))
+        ∷ cut_out_brake k
+        ∷ ask (inquiry passenger (⟦<Electric as StockLaws>⟧.meaning stocks.now.electric) (Stop questions.stop))
+        ∷ ask (inquiry combined (⟦<Blended as StockLaws>⟧.meaning stocks.now.blended) (Speed questions.speed))
+        ∷ ask (inquiry combined (⟦<Blended as StockLaws>⟧.meaning stocks.now.blended) (Mass questions.mass))
+        ∷ [] }
+{
     [
-        calls[0].reply,
-        calls[1].reply,
-        calls[2].reply,
-        calls[3].reply,
-        calls[4].reply,
-        calls[5].reply,
+        Exchange::from(Call::Couple(vehicle)),
+        to_diesel(&stocks.diesel, Question::Stop(questions.stop)),
+        Exchange::from(Call::CutOut(k)),
+        to_electric(&stocks.electric, Question::Stop(questions.stop)),
+        to_blended(&stocks.blended, Question::Speed(questions.speed)),
+        to_blended(&stocks.blended, Question::Mass(questions.mass)),
+    ]
+}
+
+// A question to the first stock, with the freight brake.
+fn to_diesel<'a>(stock: &'a Diesel, question: Question) -> Exchange<Mixture<'a>>
+    ensures { event_of ⟦<Mixture<'a> as Inquiry>⟧.inquiry result.call
+        ≡ ask (inquiry freight (⟦<Diesel as StockLaws>⟧.meaning stock.now) question) }
+{
+    let asked = Either::Left(Asked::new(stock, question));
+    Exchange {
+        call: Call::Ask(asked),
+        reply: None,
+    }
+}
+
+// A question to the second, with the passenger brake.
+fn to_electric<'a>(stock: &'a Electric, question: Question) -> Exchange<Mixture<'a>>
+    ensures { event_of ⟦<Mixture<'a> as Inquiry>⟧.inquiry result.call
+        ≡ ask (inquiry passenger (⟦<Electric as StockLaws>⟧.meaning stock.now) question) }
+{
+    let asked = Either::Left(Asked::new(stock, question));
+    Exchange {
+        call: Call::Ask(Either::Right(asked)),
+        reply: None,
+    }
+}
+
+// A question to the third, with the combined brake.
+fn to_blended<'a>(stock: &'a Blended, question: Question) -> Exchange<Mixture<'a>>
+    ensures { event_of ⟦<Mixture<'a> as Inquiry>⟧.inquiry result.call
+        ≡ ask (inquiry combined (⟦<Blended as StockLaws>⟧.meaning stock.now) question) }
+{
+    let asked = Either::Right(Asked::new(stock, question));
+    Exchange {
+        call: Call::Ask(Either::Right(asked)),
+        reply: None,
+    }
+}
+
+// Performs six calls: the replies in their order.
+fn replies<Q: Inquiry>(sheet: &mut Sheet, calls: &mut [Exchange<Q>; 6]) -> [Option<Reply>; 6]
+    ensures { Mixed sheet.old (events_of Q.inquiry calls.old) result sheet.new }
+{
+    perform(sheet, calls);
+    beside(calls)
+}
+
+// What stands beside six calls.
+fn beside<Q>(calls: &[Exchange<Q>; 6]) -> [Option<Reply>; 6]
+    ensures { result ≡ map (λ e. e.reply) calls.now }
+{
+    let [first, second, third, fourth, fifth, sixth] = calls;
+    [
+        first.reply,
+        second.reply,
+        third.reply,
+        fourth.reply,
+        fifth.reply,
+        sixth.reply,
     ]
 }

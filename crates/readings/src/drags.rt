@@ -1,6 +1,7 @@
+use crate::telling::tell_readings;
 use laws::{QuadraticDrag, Running, WagonDrag};
 use layers::{Blend, Scale};
-use report::tell_readings;
+use rules::Refusal;
 use std::io;
 
 /// Wagons and the DF4.
@@ -43,6 +44,6 @@ pub fn layers(rt: &HostRuntime) -> io::Result<()> {
 }
 
 // A train at a speed and a gross mass per wagon, both in tenths.
-fn running((speed, mass): (u32, u32)) -> Option<Running> {
+fn running((speed, mass): (u32, u32)) -> Result<Running, Refusal> {
     Running::from_tenths(speed, mass)
 }

@@ -1,6 +1,6 @@
+use crate::telling::tell_readings;
 use laws::{CastIron, Composite};
 use layers::{Blend, Lesser, Scale};
-use report::tell_readings;
 use std::io;
 use units::Speed;
 

@@ -5,7 +5,7 @@ use layers::{Blend, Lesser, Scale};
 use pull_table::PullTable;
 use reckoning::stop;
 use report::{Outcome, example_sheet, example_table};
-use rules::{Refusal, StopFigures, StopQuestion};
+use rules::{Refusal, StopQuestion};
 use std::io;
 
 // A stock with layers in the place of every law.
@@ -36,7 +36,7 @@ fn layered_stock() -> Result<Layered, Refusal> {
 /// Stops of the example train by a stock of layers alone.
 pub fn stops(rt: &HostRuntime) -> io::Result<()> {
     println!(rt; "stops by layers alone")?;
-    let sheet = example_sheet(rt.alloc(), -20)?;
+    let sheet = example_sheet(-20);
     if let Ok(stock) = layered_stock() {
         for (speed, factor) in [(730, 8), (730, 5), (1200, 10)] {
             let question = StopQuestion {
@@ -44,9 +44,8 @@ pub fn stops(rt: &HostRuntime) -> io::Result<()> {
                 speed,
                 factor,
             };
-            let answer = stop::<Passenger, _>(&sheet, &stock, question);
-            let told = Outcome(answer.map(|figures| StopFigures::from(figures)));
-            println!(rt; "speed {speed}, factor {factor}: {told}")?;
+            let outcome = Outcome::from(stop::<Passenger, _>(&sheet, &stock, question));
+            println!(rt; "speed {speed}, factor {factor}: {outcome}")?;
         }
     }
     Ok(())

@@ -5,6 +5,7 @@ mod drags;
 mod frictions;
 mod layered;
 mod pulls;
+mod telling;
 
 use std::io;
 

@@ -1,7 +1,8 @@
+use crate::telling::tell_readings;
 use laws::{AdhesionPull, NoPull};
 use layers::{Blend, Lesser, Scale};
 use pull_table::PullTable;
-use report::{example_pull, example_table, tell_readings};
+use report::{example_pull, example_table};
 use rules::PointFigures;
 use std::io;
 use units::Speed;

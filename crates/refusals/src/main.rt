@@ -7,7 +7,7 @@ mod speeds;
 mod stops;
 mod trains;
 
-use report::tell_quadratic_drags;
+use report::drags_at_limits;
 use std::io;
 
 fn main(rt: HostRuntime) -> io::Result<()> {
@@ -17,7 +17,9 @@ fn main(rt: HostRuntime) -> io::Result<()> {
     lines::long_line(&rt)?;
     lines::braking_distances(&rt)?;
     println!(&rt; "laws")?;
-    tell_quadratic_drags(&rt)?;
+    for drag in drags_at_limits() {
+        println!(&rt; "{drag}")?;
+    }
     stops::out_of_range(&rt)?;
     stops::weak_brakes(&rt)?;
     speeds::speeds(&rt)?;

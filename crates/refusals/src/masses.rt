@@ -8,7 +8,7 @@ use std::io;
 /// Mass questions out of their ranges, without a line or a locomotive, and where nothing is hauled.
 pub fn masses(rt: &HostRuntime) -> io::Result<()> {
     println!(rt; "masses")?;
-    let mut sheet = example_sheet(rt.alloc(), 80)?;
+    let mut sheet = example_sheet(80);
     for (speed, gross) in [
         (1601, 600),
         (200, 49),
@@ -30,7 +30,7 @@ pub fn masses(rt: &HostRuntime) -> io::Result<()> {
         stop: 1,
     });
     tell_mass(rt, &sheet, 200, 600)?;
-    let mut wagons = Sheet::new(rt.alloc())?;
+    let mut wagons = Sheet::new();
     let _ = wagons.couple(VehicleFigures::new('W', 600, 200));
     let _ = wagons.append(SectionFigures::straight(1000, 0));
     tell_mass(rt, &wagons, 200, 600)

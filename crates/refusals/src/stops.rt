@@ -1,13 +1,12 @@
-use laws::{Freight, NoPull, diesel};
-use reckoning::stop;
-use report::{Outcome, example_sheet, tell_stop};
-use rules::{StopFigures, StopQuestion};
+use laws::Freight;
+use report::{example_sheet, stop_of_df4};
+use rules::StopQuestion;
 use std::io;
 
 /// Stop questions out of their ranges, and beyond the line.
 pub fn out_of_range(rt: &HostRuntime) -> io::Result<()> {
     println!(rt; "stops")?;
-    let sheet = example_sheet(rt.alloc(), 0)?;
+    let sheet = example_sheet(0);
     for (place, speed, factor) in [
         (4_000_001, 100, 10),
         (0, 1601, 10),
@@ -21,9 +20,8 @@ pub fn out_of_range(rt: &HostRuntime) -> io::Result<()> {
             speed,
             factor,
         };
-        let answer = stop::<Freight, _>(&sheet, &diesel(NoPull), question);
-        let told = Outcome(answer.map(|figures| StopFigures::from(figures)));
-        println!(rt; "stop {place} {speed} {factor}: {told}")?;
+        let stop = stop_of_df4::<Freight>(&sheet, question);
+        println!(rt; "stop {place} {speed} {factor}: {stop}")?;
     }
     Ok(())
 }
@@ -32,11 +30,14 @@ pub fn out_of_range(rt: &HostRuntime) -> io::Result<()> {
 pub fn weak_brakes(rt: &HostRuntime) -> io::Result<()> {
     let slow = StopQuestion::full_braking(0, 100);
     let fast = StopQuestion::full_braking(0, 1600);
-    let mut steep = example_sheet(rt.alloc(), -400)?;
+    let mut steep = example_sheet(-400);
     let _ = steep.cut_out(0);
-    tell_stop::<Freight, _>(rt, "gradient -400, locomotive cut out", &steep, slow)?;
+    let stop = stop_of_df4::<Freight>(&steep, slow);
+    println!(rt; "gradient -400, locomotive cut out: {stop}")?;
     let _ = steep.cut_out(1);
-    tell_stop::<Freight, _>(rt, "gradient -400, both cut out", &steep, slow)?;
-    let level = example_sheet(rt.alloc(), 0)?;
-    tell_stop::<Freight, _>(rt, "speed 1600", &level, fast)
+    let stop = stop_of_df4::<Freight>(&steep, slow);
+    println!(rt; "gradient -400, both cut out: {stop}")?;
+    let level = example_sheet(0);
+    let stop = stop_of_df4::<Freight>(&level, fast);
+    println!(rt; "speed 1600: {stop}")
 }

@@ -1,5 +1,5 @@
 use laws::Freight;
-use report::{Outcome, tell, tell_stop};
+use report::{Outcome, stop_of_df4};
 use rules::{StopQuestion, VehicleFigures};
 use sheet::Sheet;
 use std::io;
@@ -7,7 +7,7 @@ use std::io;
 /// Vehicles inside and outside their ranges.
 pub fn vehicles(rt: &HostRuntime) -> io::Result<()> {
     println!(rt; "vehicles")?;
-    let mut sheet = Sheet::new(rt.alloc())?;
+    let mut sheet = Sheet::new();
     for (letter, mass, pressure) in [
         ('X', 1000, 400),
         ('l', 1000, 400),
@@ -27,22 +27,25 @@ pub fn vehicles(rt: &HostRuntime) -> io::Result<()> {
 
 /// A train of no vehicle, and one of 120 wagons.
 pub fn long_train(rt: &HostRuntime) -> io::Result<()> {
-    let mut sheet = Sheet::new(rt.alloc())?;
-    tell(rt, "uncouple from no train", Outcome::of(sheet.uncouple()))?;
-    tell(
-        rt,
-        "cut out vehicle 0 of none",
-        Outcome::of(sheet.cut_out(0)),
-    )?;
+    let mut sheet = Sheet::new();
+    let uncoupled = Outcome::of(sheet.uncouple());
+    println!(rt; "uncouple from no train: {uncoupled}")?;
+    let cut_out = Outcome::of(sheet.cut_out(0));
+    println!(rt; "cut out vehicle 0 of none: {cut_out}")?;
     let wagon = VehicleFigures::new('W', 600, 200);
     for _ in 0..119 {
         let _ = sheet.couple(wagon);
     }
-    tell(rt, "couple vehicle 119", Outcome::of(sheet.couple(wagon)))?;
-    tell(rt, "couple vehicle 120", Outcome::of(sheet.couple(wagon)))?;
-    tell(rt, "restore vehicle 119", Outcome::of(sheet.restore(119)))?;
-    tell(rt, "restore vehicle 120", Outcome::of(sheet.restore(120)))?;
-    tell(rt, "uncouple vehicle 119", Outcome::of(sheet.uncouple()))?;
-    let question = StopQuestion::full_braking(0, 100);
-    tell_stop::<Freight, _>(rt, "stop without a locomotive", &sheet, question)
+    for k in 119..=120 {
+        let outcome = Outcome::of(sheet.couple(wagon));
+        println!(rt; "couple vehicle {k}: {outcome}")?;
+    }
+    for k in 119..=120 {
+        let outcome = Outcome::of(sheet.restore(k));
+        println!(rt; "restore vehicle {k}: {outcome}")?;
+    }
+    let uncoupled = Outcome::of(sheet.uncouple());
+    println!(rt; "uncouple vehicle 119: {uncoupled}")?;
+    let stop = stop_of_df4::<Freight>(&sheet, StopQuestion::full_braking(0, 100));
+    println!(rt; "stop without a locomotive: {stop}")
 }

@@ -1,2 +1,4 @@
+pub mod Drags
 pub mod Printed
 pub mod Samples
+pub mod Told

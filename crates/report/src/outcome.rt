@@ -1,8 +1,9 @@
-ghost use Rattle.report.specs.Printed.{outcome_text};
-ghost use Rattle.rules.specs.Refusals.{told};
-ghost use Rattle.std.specs.Prelude.{◌≡◌, Some, codes};
+ghost use Rattle.report.specs.Printed.{outcome_text, passed_text};
+ghost use Rattle.report.specs.Told.{stop_told};
+ghost use Rattle.rules.specs.Refusals.{stop_reply, told};
+ghost use Rattle.std.specs.Prelude.{◌≡◌, Some};
 
-use rules::Refusal;
+use rules::{Refusal, StopFigures};
 use std::fmt;
 
 /// What a call came to: what it answers, or `refused` and the number.
@@ -25,7 +26,7 @@ impl<T: fmt::Display> fmt::Display for Outcome<T> {
 }
 
 impl fmt::Display for Passed {
-    ghost output = { λ _. Some (codes "passed") };
+    ghost output = { λ _. Some passed_text };
 
     fn fmt<W: fmt::Write>(&self, f: &mut fmt::Formatter<W>) -> fmt::Result {
         f.write_str("passed")
@@ -39,5 +40,14 @@ impl Outcome<Passed> {
         ensures { told result.0 ≡ told made }
     {
         Outcome(made.map(|_| Passed))
+    }
+}
+
+impl From<Result<(u32, u32, u32), Refusal>> for Outcome<StopFigures> {
+    ghost from_gives = { λ made x. stop_told x.0 ≡ stop_reply made };
+
+    // What a stop question came to, its figures by their names.
+    fn from(made: Result<(u32, u32, u32), Refusal>) -> Outcome<StopFigures> {
+        Outcome(made.map(|figures| StopFigures::from(figures)))
     }
 }

@@ -2,7 +2,7 @@ ghost use Rattle.report.specs.Samples.{example_book};
 ghost use Rattle.rules.specs.Refusals.{stop_reply};
 ghost use Rattle.rules.specs.Sample.{example_points, example_pull, example_stop};
 ghost use Rattle.pull_table.specs.Tables.{points_of};
-ghost use Rattle.std.specs.Prelude.{◌≡◌, IfOk};
+ghost use Rattle.std.specs.Prelude.{◌≡◌};
 
 use laws::{Freight, diesel};
 use layers::Scale;
@@ -10,7 +10,6 @@ use pull_table::PullTable;
 use reckoning::stop;
 use rules::{PointFigures, Refusal, SectionFigures, StopQuestion, VehicleFigures};
 use sheet::Sheet;
-use std::alloc::{AllocError, Global};
 
 /// A pull of 40,000 kgf at rest and 20,000 kgf at 40 km/h.
 pub fn example_table() -> PullTable
@@ -37,12 +36,12 @@ pub fn stop_of_example(sheet: &Sheet, speed: u32) -> Result<(u32, u32, u32), Ref
 }
 
 /// A locomotive of 100 t and a wagon of 60 t, on 3,000 m of a gradient.
-pub fn example_sheet(heap: Global, gradient: i32) -> Result<Sheet, AllocError>
-    ensures { IfOk result (λ s. s ≡ example_book gradient) }
+pub fn example_sheet(gradient: i32) -> Sheet
+    ensures { result ≡ example_book gradient }
 {
-    let mut sheet = Sheet::new(heap)?;
+    let mut sheet = Sheet::new();
     let _ = sheet.couple(VehicleFigures::new('L', 1000, 400));
     let _ = sheet.couple(VehicleFigures::new('W', 600, 200));
     let _ = sheet.append(SectionFigures::straight(3000, gradient));
-    Ok(sheet)
+    sheet
 }
