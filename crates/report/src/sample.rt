@@ -1,10 +1,10 @@
 ghost use Rattle.report.specs.Samples.{example_book};
 ghost use Rattle.rules.specs.Refusals.{stop_reply};
-ghost use Rattle.rules.specs.Sample.{example_points, example_pull, example_stop};
+ghost use Rattle.rules.specs.Sample.{example_points, example_pull, example_stock, example_stop};
 ghost use Rattle.pull_table.specs.Tables.{points_of};
 ghost use Rattle.std.specs.Prelude.{◌≡◌};
 
-use laws::{Freight, diesel};
+use laws::{Diesel, Freight, StockLaws, diesel};
 use layers::Scale;
 use pull_table::PullTable;
 use reckoning::stop;
@@ -31,8 +31,22 @@ pub fn example_pull() -> Scale<PullTable>
 pub fn stop_of_example(sheet: &Sheet, speed: u32) -> Result<(u32, u32, u32), Refusal>
     ensures { stop_reply result ≡ example_stop example_pull sheet.now speed }
 {
-    let question = StopQuestion::full_braking(0, speed);
-    stop::<Freight, _>(sheet, &diesel(example_pull()), question)
+    stop_by(sheet, &example_df4(), speed)
+}
+
+// The same, with laws that are those of the example.
+fn stop_by<S: StockLaws>(sheet: &Sheet, stock: &S, speed: u32) -> Result<(u32, u32, u32), Refusal>
+    requires { S.meaning stock.now ≡ example_stock example_pull }
+    ensures { stop_reply result ≡ example_stop example_pull sheet.now speed }
+{
+    stop::<Freight, _>(sheet, stock, StopQuestion::full_braking(0, speed))
+}
+
+// The laws of a DF4 of the example's pull.
+fn example_df4() -> Diesel<Scale<PullTable>>
+    ensures { ⟦<Diesel<Scale<PullTable>> as StockLaws>⟧.meaning result ≡ example_stock example_pull }
+{
+    diesel(example_pull())
 }
 
 /// A locomotive of 100 t and a wagon of 60 t, on 3,000 m of a gradient.
