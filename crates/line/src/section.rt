@@ -146,7 +146,7 @@ impl Section {
         ensures least { negsuc 39999 ≤ℤ result }
         ensures most { result ≤ℤ pos 1040000 }
     {
-        Grade::of_gradient(self.gradient).plus(curve.signed())
+        Grade::from_milli(100 * self.gradient + curve.count() as i32)
     }
 }
 

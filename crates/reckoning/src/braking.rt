@@ -95,15 +95,13 @@ impl<'a, S: StockLaws> Braking<'a, S> {
 
     // The force that holds the train back in a step; the brake force is that at its upper speed.
     #[tactic(auto, unfolding(rules::specs::Stop::holding_force))]
+    #[inline(always)]
     fn holding(&self, step: Step) -> SpecificForce
         ensures { result ≡ holding_force (train_of S.meaning self.now) step }
     {
         let brake = self.brake_force(step.top());
         let drag = self.drag(step);
-        brake
-            .signed()
-            .plus(drag.signed())
-            .plus(self.approach.lowest)
+        SpecificForce::holding(brake, drag, self.approach.lowest)
     }
 
     // The run from a speed: one step down to the edge where a run begins, and that run; refused where the train is not held in

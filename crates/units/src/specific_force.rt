@@ -1,13 +1,17 @@
 ghost use Rattle.std.specs.Prelude.{◌≡◌, ◌≤◌, min, pos, ◌+ℤ◌, ◌*ℤ◌, Some};
 ghost use Rattle.std.specs.Fmt.{signed_decimal};
 ghost use Rattle.rules.specs.Fraction.{fall_of, natural_of};
-ghost use Rattle.std.specs.Int.{int_min, saturate_signed, w64};
+ghost use Rattle.std.specs.Int.{int_min};
 
 use crate::amount::Milli;
 use std::fmt;
 use std::marker::Model;
 
-/// A specific force of either sign in milli, thousandths of kgf/t: it holds a train back, and drives it on where it is negative.
+// The greatest force in milli, 2^62.
+const MOST: i64 = 4_611_686_018_427_387_904;
+
+/// A specific force of either sign in milli, thousandths of kgf/t, at most 2^62: it holds a train back, and drives it on where it
+/// is negative.
 #[derive(Clone, Copy, PartialEq, Eq, PartialOrd, Ord, Debug)]
 pub struct SpecificForce {
     milli: i64,
@@ -17,11 +21,13 @@ pub struct SpecificForce {
 pub type Grade = SpecificForce;
 
 impl Model for SpecificForce {
-    ghost use Rattle.std.specs.Prelude.{ℤ};
+    ghost use Rattle.std.specs.Prelude.{ℤ, ◌≤ℤ◌, pos};
 
     ghost Value = { ℤ };
 
     ghost view = { λ f. f.milli };
+
+    ghost invariant = { λ f. f.milli ≤ℤ pos 4611686018427387904 };
 
     ghost inverse = { λ z. record { milli = z } };
 }
@@ -29,18 +35,21 @@ impl Model for SpecificForce {
 impl SpecificForce {
     // By name and not by `From`: `Grade::from(100)` would not say milli.
     /// The force of so many milli.
-    pub fn from_milli(milli: i64) -> SpecificForce
+    pub fn from_milli(milli: i32) -> SpecificForce
         ensures { result ≡ milli }
     {
-        SpecificForce { milli }
+        SpecificForce {
+            milli: i64::from(milli),
+        }
     }
 
-    /// The grade of a gradient in tenths of a per mille: 100 milli for each.
-    pub fn of_gradient(tenths: i32) -> SpecificForce
-        ensures { result ≡ pos 100 *ℤ tenths }
+    /// The force that holds a train back under a brake force and a drag on a grade; one of more than 2^62 milli is taken as that.
+    pub fn holding(brake: Milli, drag: Milli, grade: Grade) -> SpecificForce
+        ensures { result ≡ int_min (pos brake +ℤ pos drag +ℤ grade) (pos 4611686018427387904) }
     {
+        let milli = i64::from(brake.count()) + i64::from(drag.count()) + grade.milli;
         SpecificForce {
-            milli: 100 * i64::from(tenths),
+            milli: milli.min(MOST),
         }
     }
 
@@ -59,15 +68,6 @@ impl SpecificForce {
         self.min(other)
     }
 
-    /// Two forces together; past what 64 bits hold, the last force that they do.
-    pub fn plus(self, other: SpecificForce) -> SpecificForce
-        ensures { result ≡ saturate_signed w64 (self +ℤ other) }
-    {
-        SpecificForce {
-            milli: self.milli.saturating_add(other.milli),
-        }
-    }
-
     /// The force as an amount: 0 where it is negative, and 4,294,967,295 milli where it is more.
     pub fn positive_part(self) -> Milli
         ensures { result ≡ min (natural_of self) 4294967295 }
@@ -82,17 +82,6 @@ impl SpecificForce {
     {
         let milli = self.milli.min(0).unsigned_abs();
         Milli::new(milli.min(u64::from(u32::MAX)) as u32)
-    }
-}
-
-impl Milli {
-    /// The amount as a force of either sign.
-    pub fn signed(self) -> SpecificForce
-        ensures { result ≡ pos self }
-    {
-        SpecificForce {
-            milli: i64::from(self.count()),
-        }
     }
 }
 

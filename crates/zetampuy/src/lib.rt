@@ -82,7 +82,8 @@ pub extern "C" fn zetampuy_answer(
     ensures accepts { (q : Request) (b : Book) → IsRun text.now q b → handle.old.made ≡ true → 64 ≤ length out.old
         → (answer : Result ℕ NoAnswer) × NthAnswered (nine_tenths q.points) q b number out.old answer out.new × (result ≡ answer_code answer) }
     ensures refuses { (f : FileFault) → IsFault text.now f → handle.old.made ≡ true → 64 ≤ length out.old → result ≡ refusal_code f.refusal }
-    ensures left { 64 ≤ length out.old → ReadIn text.now handle.old.held.reckoner handle.new.held.reckoner }
+    ensures left { 64 ≤ length out.old
+        → ReadIn text.now handle.old.held.reckoner handle.new.held.reckoner }
     ensures kept { length out.old < 64 → handle.new.held.reckoner ≡ handle.old.held.reckoner }
 {
     let Some(mut reckoner) = handle.take(heap) else {
@@ -110,7 +111,8 @@ pub extern "C" fn zetampuy_fault(
     ensures accepts { (q : Request) (b : Book) → IsRun text.now q b → handle.old.made ≡ true → 64 ≤ length out.old → result ≡ pos 0 }
     ensures refuses { (f : FileFault) → IsFault text.now f → handle.old.made ≡ true → 64 ≤ length out.old
         → (k : ℕ) × Heads (fault_line f) out.old k out.new × (result ≡ pos k) }
-    ensures left { 64 ≤ length out.old → ReadIn text.now handle.old.held.reckoner handle.new.held.reckoner }
+    ensures left { 64 ≤ length out.old
+        → ReadIn text.now handle.old.held.reckoner handle.new.held.reckoner }
     ensures kept { length out.old < 64 → handle.new.held.reckoner ≡ handle.old.held.reckoner }
 {
     let Some(mut reckoner) = handle.take(heap) else {
