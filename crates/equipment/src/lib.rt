@@ -34,7 +34,7 @@ mod tests {
     // No contract says that an input is answered without an error where none should come.
     #[test]
     fn inputs_of_any_length_are_answered(rt: HostRuntime) -> Result<(), Fail> {
-        for length in [1, 65_536, 65_537, 200_000] {
+        for length in [1, 150, 5_000, 30_000, 65_536, 65_537, 200_000] {
             let input = vec![in rt.alloc(); b'x'; length]?;
             let mut output = Vec::new(rt.alloc());
             answer_input(rt.alloc(), input.as_slice(), &mut output, &NineTenths)?;
