@@ -17,8 +17,8 @@ pub fn run<E: Equipment>(rt: &HostRuntime, equipment: &E) -> io::Result<()> {
 }
 
 /// Answers the run file that is the whole of an input, however long that is, and writes the lines to an output. (Where an input or
-/// an output does not tell its bytes, as those of a process, nothing is said of them, and nothing where the call returns an error:
-/// memory, reading and writing have one, and `Reckoner::answer` has none.)
+/// an output does not tell its bytes, as those of a process, nothing is said of them, and nothing where the call returns an error,
+/// which is for memory, reading and writing: `Reckoner::answer` has none.)
 pub fn answer_input<R: Read + Drop, W: Write, E: Equipment>(
     heap: Global,
     input: R,
@@ -31,7 +31,7 @@ pub fn answer_input<R: Read + Drop, W: Write, E: Equipment>(
     answer_text(&text, output, equipment)
 }
 
-// The bytes of an input, as far as a run file can go and one more.
+// The bytes of an input, as far as a run file can go and one more. An error comes of memory or of reading.
 fn read_text<R: Read + Drop>(heap: Global, input: R) -> io::Result<Vec<u8>>
     ensures { IfOk result (λ v. IfSome (R.remaining input) (λ text. v.items ≡ take 65537 text)) }
 {
@@ -40,7 +40,7 @@ fn read_text<R: Read + Drop>(heap: Global, input: R) -> io::Result<Vec<u8>>
     Ok(text)
 }
 
-// Answers a text, which cannot fail, and writes the lines to an output.
+// Answers a text, which cannot fail, and writes the lines to an output. An error comes of writing.
 fn answer_text<W: Write, E: Equipment>(text: &[u8], output: &mut W, equipment: &E) -> io::Result<()>
     ensures { OnOk result (AnsweredInto (E.stock equipment.now) (W.contents output.old) (W.contents output.new) text.now) }
 {

@@ -24,27 +24,3 @@ impl Equipment for NineTenths {
         diesel(Scale::new(table, 90).unwrap())
     }
 }
-
-#[cfg(test)]
-mod tests {
-    use super::*;
-    use answering::answer_input;
-    use std::test::Fail;
-
-    // No contract says that an input is answered without an error where none should come.
-    #[test]
-    fn inputs_of_any_length_are_answered(rt: HostRuntime) -> Result<(), Fail> {
-        for length in [1, 150, 5_000, 30_000, 65_536, 65_537, 200_000] {
-            let input = vec![in rt.alloc(); b'x'; length]?;
-            let mut output = Vec::new(rt.alloc());
-            answer_input(rt.alloc(), input.as_slice(), &mut output, &NineTenths)?;
-            let fault: &[u8] = if length > 65_536 {
-                b"FAULT TEXT 1 16\n"
-            } else {
-                b"FAULT TEXT 1 15\n"
-            };
-            assert!(rt; output.as_slice() == fault, "{length} bytes");
-        }
-        Ok(())
-    }
-}
