@@ -78,14 +78,16 @@ pub trait Law {
 
     /// The whole value below the exact one at a place.
     fn below(&self, at: Self::Place) -> Amount<Self::Unit>
-        ensures { result ≡ low self.now at }
+        ensures value { result ≡ low self.now at }
+        ensures most { result ≤ 1000000 }
     {
         self.read(at).below
     }
 
     /// The whole value above the exact one at a place.
     fn above(&self, at: Self::Place) -> Amount<Self::Unit>
-        ensures { result ≡ high self.now at }
+        ensures value { result ≡ high self.now at }
+        ensures most { result ≤ 1000000 }
     {
         self.read(at).above
     }

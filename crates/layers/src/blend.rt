@@ -77,6 +77,17 @@ impl<F: Law, S: Law<Unit = F::Unit, Place = F::Place>> Law for Blend<F, S> {
         }
     }
 
+    // One value alone is reckoned of those alone underneath, so that a pile of layers works out no more than is asked for.
+    fn below(&self, at: F::Place) -> Amount<F::Unit> {
+        self.mixture(self.first.below(at), self.second.below(at))
+            .down()
+    }
+
+    fn above(&self, at: F::Place) -> Amount<F::Unit> {
+        self.mixture(self.first.above(at), self.second.above(at))
+            .up()
+    }
+
     fn slack(&self) -> Option<u32> {
         self.first.slack()?.max(self.second.slack()?).checked_add(1)
     }

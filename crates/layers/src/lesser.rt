@@ -5,7 +5,7 @@ ghost use Rattle.rules.proofs.Layers.{smaller_reads, smaller_at_most};
 ghost use Rattle.rules.proofs.Readings.{wider};
 
 use laws::{FallingLaw, Law, Reading};
-use units::Speed;
+use units::{Amount, Speed};
 
 /// The lesser of two frictions or of two pulls, at each speed.
 #[derive(Drop)]
@@ -45,6 +45,15 @@ impl<F: FallingLaw, S: FallingLaw<Unit = F::Unit>> Law for Lesser<F, S> {
             below: first.below.min(second.below),
             above: first.above.min(second.above),
         }
+    }
+
+    // One value alone is the lesser of those alone underneath, so that a pile of layers works out no more than is asked for.
+    fn below(&self, v: Speed) -> Amount<F::Unit> {
+        self.first.below(v).min(self.second.below(v))
+    }
+
+    fn above(&self, v: Speed) -> Amount<F::Unit> {
+        self.first.above(v).min(self.second.above(v))
     }
 
     fn slack(&self) -> Option<u32> {

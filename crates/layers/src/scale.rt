@@ -65,6 +65,15 @@ impl<L: Law> Law for Scale<L> {
         }
     }
 
+    // One value alone is reckoned of that one alone underneath, so that a pile of layers works out no more than is asked for.
+    fn below(&self, at: L::Place) -> Amount<L::Unit> {
+        self.share(self.base.below(at)).down()
+    }
+
+    fn above(&self, at: L::Place) -> Amount<L::Unit> {
+        self.share(self.base.above(at)).up()
+    }
+
     fn slack(&self) -> Option<u32> {
         self.base.slack()?.checked_add(1)
     }
