@@ -17,9 +17,9 @@ lowest_with (Some g) gs = lowest int_min (pos 0) (g ∷ gs)
 abbrev pub IsLowerOf : Option ℤ → ℤ → ℤ → Type 0
 IsLowerOf o g r = MatchOption o (r ≡ g) (λ old. r ≡ int_min old g)
 
--- a grade of a section, as far as there is one, is -40,000 to 1,040,000
+-- a grade of a section, as far as there is one, is -40,000 to 47,000
 abbrev pub InRange : Option ℤ → Type 0
-InRange o = IfSome o (λ g. (negsuc 39999 ≤ℤ g) × (g ≤ℤ pos 1040000))
+InRange o = IfSome o (λ g. (negsuc 39999 ≤ℤ g) × (g ≤ℤ pos 47000))
 
 -- and so is the lower of two
 pub lower_in_range : (o : Option ℤ) (g r : ℤ) → InRange o → InRange (Some g) → IsLowerOf o g r → InRange (Some r)

@@ -100,7 +100,7 @@ impl Line {
     pub fn lowest_low_grade(&self, from: u32, to: u32) -> Grade
         ensures value { result ≡ lowest_low_grade (window from to self.now) }
         ensures least { negsuc 39999 ≤ℤ result }
-        ensures most { result ≤ℤ pos 1040000 }
+        ensures most { result ≤ℤ pos 47000 }
         ensures lawful { LawfulSections self.now }
     {
         let mut start: u32 = 0;

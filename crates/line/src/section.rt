@@ -111,22 +111,47 @@ impl Section {
     pub fn low_grade(&self) -> Grade
         ensures value { result ≡ low_grade self.now }
         ensures least { negsuc 39999 ≤ℤ result }
-        ensures most { result ≤ℤ pos 1040000 }
+        ensures most { result ≤ℤ pos 47000 }
     {
-        self.with_curve(self.curve_grade().down())
+        self.with_curve(self.low_curve())
     }
 
     /// The grade, its fraction of a milli rounded up; 0 where that is negative.
     pub fn high_grade(&self) -> Milli
         ensures { pos result ≡ high_grade self.now }
     {
-        self.with_curve(self.curve_grade().up()).positive_part()
+        self.with_curve(self.high_curve()).positive_part()
+    }
+
+    // What the curve adds to the grade, rounded down; nothing is divided without a curve.
+    #[tactic(auto, using(crate::proofs::Grades::low_straight))]
+    fn low_curve(&self) -> Milli
+        ensures value { low_grade self.now ≡ pos 100 *ℤ self.now.gradient +ℤ pos result }
+        ensures small { result ≤ 7000 }
+    {
+        if self.curve.is_none() {
+            return Milli::new(0);
+        }
+        self.curve_grade().down()
+    }
+
+    // What the curve adds to the grade, rounded up; nothing is divided without a curve.
+    #[tactic(auto, using(crate::proofs::Grades::high_straight))]
+    fn high_curve(&self) -> Milli
+        ensures value { high_grade self.now ≡ int_max (pos 100 *ℤ self.now.gradient +ℤ pos result) (pos 0) }
+        ensures small { result ≤ 7000 }
+    {
+        if self.curve.is_none() {
+            return Milli::new(0);
+        }
+        self.curve_grade().up()
     }
 
     // What the curve adds to the grade, in milli.
     fn curve_grade(&self) -> ExactValue<MilliPerTonne>
         ensures low { low_grade self.now ≡ pos 100 *ℤ self.now.gradient +ℤ pos (rounded_down result) }
         ensures high { high_grade self.now ≡ int_max (pos 100 *ℤ self.now.gradient +ℤ pos (rounded_up result)) (pos 0) }
+        ensures small { rounded_up result ≤ 7000 }
     {
         let (rise, run) = match self.curve {
             Some(curve) => (
@@ -138,13 +163,13 @@ impl Section {
         ExactValue::of(rise, run).unwrap()
     }
 
-    // The grade of the gradient and of what the curve adds to it, in milli. The bound is that of an exact value: a type for it
+    // The grade of the gradient and of what the curve adds to it, in milli. The bound is that of every curve: a type for it
     // would be one more wrapped number.
     fn with_curve(&self, curve: Milli) -> Grade
-        requires { curve ≤ 1000000 }
+        requires { curve ≤ 7000 }
         ensures value { result ≡ pos 100 *ℤ self.now.gradient +ℤ pos curve }
         ensures least { negsuc 39999 ≤ℤ result }
-        ensures most { result ≤ℤ pos 1040000 }
+        ensures most { result ≤ℤ pos 47000 }
     {
         Grade::from_milli(100 * self.gradient + curve.count() as i32)
     }

@@ -31,7 +31,7 @@ pub(crate) struct Approach {
     ghost pressed: { pressure ≤ hauling + trailing },
     ghost near: { reach ≤ 4000 },
     ghost deep: { negsuc 39999 ≤ℤ lowest },
-    ghost high: { lowest ≤ℤ pos 1040000 },
+    ghost high: { lowest ≤ℤ pos 47000 },
 }
 
 impl Approach {

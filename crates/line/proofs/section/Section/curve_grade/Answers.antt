@@ -1,5 +1,5 @@
 use Rattle.std.proofs.Common.{◌≡◌, ◌≤◌, rules}
-use Rattle.line.proofs.Grades.{curve_grade, low_by_curve, high_by_curve}
+use Rattle.line.proofs.Grades.{curve_grade, low_by_curve, high_by_curve, curve_small}
 use Rattle.line.proofs.section.Section.curve_grade.Goals as goal
 
 pub returns : goal.returns
@@ -9,4 +9,5 @@ returns c =
     record {
       low = rw same (low_by_curve c.args.self.now proper);
       high = rw same (high_by_curve c.args.self.now proper);
+      small = rw same (curve_small c.args.self.now (λ e. search rules));
     }
